@@ -1,0 +1,72 @@
+//! The harness's own part: how input is cut into lines, how lines are read, and that the crate's files are unchanged.
+
+use std::fs;
+use std::path::Path;
+use std::process::Command;
+
+use oracle::calls;
+use oracle::calls::Call;
+use oracle::twin::Twin;
+
+fn answers(pieces: &[&[u8]]) -> String {
+    let mut twin = Twin::new();
+    for piece in pieces {
+        twin.feed(piece);
+    }
+    twin.finish();
+    String::from_utf8(twin.output().clone()).unwrap()
+}
+
+fn repository() -> &'static Path {
+    Path::new(env!("CARGO_MANIFEST_DIR")).parent().unwrap()
+}
+
+#[test]
+fn input_may_come_in_any_pieces() {
+    let list = b"make 2\ntry-send 0 7\n\nxxxxxxxxxxxxxxxxxxxxxxxxxxxxxxxxxxxxxxxxxxxxxxxxxxxxxxxxxxxxxxxxxxxxxxxxxxx\nstatus\nrecv 0";
+    let whole = answers(&[list]);
+    assert_eq!(whole, "1 0 - - -\n2 0 - - -\n3 24 - - -\n4 24 - - -\n5 4 1,1,0,0,0,0 - -\n6 2 0 - -\n");
+    for cut in 0..=list.len() {
+        assert_eq!(answers(&[&list[..cut], &list[cut..]]), whole);
+    }
+    let bytes: Vec<&[u8]> = list.chunks(1).collect();
+    assert_eq!(answers(&bytes), whole);
+}
+
+#[test]
+fn no_input_gives_no_output() {
+    assert_eq!(answers(&[]), "");
+    assert_eq!(answers(&[b""]), "");
+    assert_eq!(answers(&[b"\n"]), "1 24 - - -\n");
+}
+
+#[test]
+fn a_line_is_read_only_in_its_one_form() {
+    assert_eq!(calls::read(b"make"), Some(Call::Make(8)));
+    assert_eq!(calls::read(b"poll-out 31 4294967295"), Some(Call::PollOut(31, u32::MAX)));
+    for bad in
+        ["make ", "make  1", "make 01", "make +1", "make 4294967296", "make 1\r", "status 0", "send 0", "push 0 1", ""]
+    {
+        assert_eq!(calls::read(bad.as_bytes()), None, "{bad:?}");
+    }
+}
+
+#[test]
+fn stored_answers_are_the_crates() {
+    let mut lists = 0;
+    for entry in fs::read_dir(repository().join("lists")).unwrap() {
+        let input = entry.unwrap().path();
+        if input.extension().is_some_and(|extension| extension == "in") {
+            let stored = fs::read_to_string(input.with_extension("out")).unwrap();
+            assert!(answers(&[&fs::read(&input).unwrap()]) == stored, "{}", input.display());
+            lists += 1;
+        }
+    }
+    assert!(lists >= 9, "{lists} stored lists");
+}
+
+#[test]
+fn the_crates_files_are_unchanged() {
+    let check = Command::new(repository().join("oracle/check-unchanged")).output().unwrap();
+    assert!(check.status.success(), "{}", String::from_utf8_lossy(&check.stderr));
+}
