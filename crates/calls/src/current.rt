@@ -1,0 +1,96 @@
+// The queue that the lines speak to, and what a line does to it.
+ghost use mathlib.Core.Path.{_≡_};
+ghost use mathlib.Core.Option.{none};
+ghost use Rattle.lines.specs.declared.Line.the-variants as Line;
+ghost use Rattle.calls.specs.Model.{Kept, Steps, meaning};
+use crate::answers::bare_answer;
+use crate::answers::shown;
+use lines::Line;
+use queue::Queue;
+
+// Before the first good make there is no queue: `live` is false, and `queue` is the fixed record beside a refused make.
+pub struct Current {
+    pub live: bool,
+    pub queue: Queue,
+}
+
+pub struct Answered {
+    pub answer: lines::Answer,
+    pub current: Current,
+}
+
+impl Current {
+    pub fn nothing() -> Current
+        ensures { λ r. ⌜ Kept r × (meaning r ≡ none) ⌝ }
+    {
+        let refused = Queue::make(0);
+        let queue = refused.queue;
+        Current {
+            live: false,
+            queue: queue,
+        }
+    }
+
+    // What a line does.
+    pub fn answer(self, line: Line) -> Answered
+        requires { ⌜ Kept self ⌝ }
+        ensures { λ r. ⌜ Steps self line r ⌝ }
+    {
+        match line {
+            Line::Bad => Answered {
+                answer: bare_answer(24),
+                current: self,
+            },
+            Line::Make(capacity) => self.make(capacity),
+            Line::Call(call) => self.call(call),
+        }
+    }
+
+    // A good make begins a new queue; a refused one keeps the queue before it.
+    fn make(self, capacity: u32) -> Answered
+        requires { ⌜ Kept self ⌝ }
+        ensures { λ r. ⌜ Steps self (Line.Make capacity) r ⌝ }
+    {
+        let turn = Queue::make(capacity);
+        let queue = turn.queue;
+        let said = turn.answer;
+        let answer = shown(said);
+        if answer.code == 0 {
+            return Answered {
+                answer: answer,
+                current: Current {
+                    live: true,
+                    queue: queue,
+                },
+            };
+        }
+        Answered {
+            answer: answer,
+            current: self,
+        }
+    }
+
+    // Any other call: of the queue, or refused where there is none.
+    fn call(self, call: model::Call) -> Answered
+        requires { ⌜ Kept self ⌝ }
+        ensures { λ r. ⌜ Steps self (Line.Call call) r ⌝ }
+    {
+        if self.live {
+            let queue = self.queue;
+            let turn = queue.step(call);
+            let next = turn.queue;
+            let said = turn.answer;
+            return Answered {
+                answer: shown(said),
+                current: Current {
+                    live: true,
+                    queue: next,
+                },
+            };
+        }
+        Answered {
+            answer: bare_answer(21),
+            current: self,
+        }
+    }
+}

@@ -1,0 +1,10 @@
+pub mod Settled
+pub mod Sending
+pub mod Receiving
+pub mod Handing
+pub mod Making
+pub mod Histories
+pub mod One
+pub mod Forms
+pub mod Lent
+pub mod Thin

@@ -1,0 +1,87 @@
+-- The exits of make. Assumes nothing.
+use Prim.Native.Nat.{ℕ, _+_, _-_, _<_, _≤_}
+use mathlib.Core.Path.{_≡_, refl, sym, ap, ap₂, _∙_, subst}
+use mathlib.Core.Bool.{Bool, true, false, not, _&&_}
+use mathlib.Core.List.{List, [], _∷_, _++_}
+use mathlib.Core.Option.{Option, none, some}
+use native.Mathlib.Omega.{arith}
+use borrow.Author.Tests.{le-leb, lt-leb}
+use lib.Dec.{leb}
+use Rattle.ring.specs.declared.Ring.{Ring}
+use Rattle.ring.specs.Values as ring
+use Rattle.tables.specs.declared.Handles.{Handles}
+use Rattle.tables.specs.declared.Number.{Number}
+use Rattle.tables.specs.declared.Permits.{Permits}
+use Rattle.tables.specs.declared.Cloned.{Cloned}
+use Rattle.tables.specs.Meaning.{handlesOf, permitsOf, HandlesSound, numbered}
+use Rattle.tables.specs.Calls.{putIf, NoHandles, NoPermits, Clones}
+use Rattle.side.specs.declared.Side.{Side}
+use Rattle.side.specs.Meaning.{sideOf}
+use Rattle.side.specs.Calls.{Fresh}
+use Rattle.model.specs.Table.{Table, blank, put, lowest, if_then_else_}
+use Rattle.model.specs.Side as side
+use Rattle.model.specs.Queue as model
+use Rattle.model.specs.Calls.{make, after}
+use Rattle.queue.specs.declared.Queue.{Queue}
+use Rattle.queue.specs.declared.What.{What}
+use Rattle.queue.specs.declared.What.the-variants.{Done, BadCapacity}
+use Rattle.queue.specs.declared.Answer.{Answer}
+use Rattle.queue.specs.Meaning.{queueOf, Shaped, Sound}
+use Rattle.queue.specs.Answers.{codeOf, fieldOf, ansOf}
+use Rattle.queue.specs.Promise.{Made}
+use Rattle.queue.specs.Steps.{Says, Blank}
+
+-- ---- blank
+pub blank-is : (c : ℕ) (h : Handles) (v : Ring) (p : Permits) (s : Side) → HandlesSound h → (ring.Sound v) × (ring.values v ≡ []) → NoPermits p → Fresh s
+    → Blank c h (record { capacity = c; values = v; free = c; senders = h; receivers = h; permits = p; outs = s; ins = s })
+blank-is c h v p s g e k u =
+    record {
+      shaped = record { values = e .0; senders = g; receivers = g; permits = k .sound; outs = u .sound; ins = u .sound };
+      is =
+          ap₂ (λ (l : List ℕ) (t : Table ℕ). record { cap = c; values = l; free = c; senders = handlesOf h; receivers = handlesOf h; outs = sideOf s; ins = sideOf s; permits = t }) (e .1) (k .permits)
+          ∙ ap (λ (x : side.Side model.Job). record { cap = c; values = []; free = c; senders = handlesOf h; receivers = handlesOf h; outs = x; ins = x; permits = blank 64 }) (u .side);
+    }
+
+-- ---- make
+made : (c : ℕ) (what : What) (a : Answer) (q : Queue) → Shaped q → Says what [] [] a → model.reply (codeOf what) (fieldOf what) [] [] (queueOf q) ≡ make c → Made c a q
+unfolding after
+made c what a q k u e =
+    record {
+      sound = record { shaped = k; came = record { capacity = c; calls = []; is = ap (λ (m : model.Result). m .next) e } };
+      answer = u .is ∙ ap (λ (m : model.Result). m .ans) e;
+      next = ap (λ (m : model.Result). m .next) e;
+    }
+
+module _ (c : ℕ) (none : Handles) (n : NoHandles none) (a : Answer) (q : Queue) where
+  refused : (leb 1 c && leb c 64) ≡ false → Blank 0 none q → Says BadCapacity [] [] a → Made c a q
+  unfolding make
+  refused z k u =
+      made c BadCapacity a q (k .shaped) u
+      (ap (λ (x : model.Queue). model.reply model.BAD-CAPACITY [] [] [] x) (k .is ∙ ap (λ (t : Table model.Mark). record { cap = 0; values = []; free = 0; senders = t; receivers = t; outs = record { ops = blank 32; line = [] }; ins = record { ops = blank 32; line = [] }; permits = blank 64 }) (n .handles))
+      ∙ sym (ap (λ (b : Bool). if b then model.reply model.DONE [] [] [] (model.fresh c) else model.refuse model.BAD-CAPACITY model.nothing) z))
+
+  pub made-nought : c ≡ 0 → Blank 0 none q → Says BadCapacity [] [] a → Made c a q
+  made-nought z = refused (ap (λ (x : ℕ). leb 1 x && leb x 64) z)
+
+  pub made-large : 64 < c → Blank 0 none q → Says BadCapacity [] [] a → Made c a q
+  made-large z = refused (ap (λ (x : Bool). leb 1 c && x) (lt-leb c 64 z) ∙ and-false (leb 1 c))
+    where
+      and-false : (x : Bool) → (x && false) ≡ false
+      and-false true = refl
+      and-false false = refl
+
+  pub made-good : (o : Cloned) → (c ≡ 0 → ⊥) → c ≤ 64 → Clones none o → Blank c (o .handles) q → Says Done [] [] a → Made c a q
+  unfolding make
+  made-good o z y k x u =
+      made c Done a q (x .shaped) u
+      (ap (λ (m : model.Queue). model.reply model.DONE [] [] [] m) (x .is ∙ ap (λ (t : Table model.Mark). record { cap = c; values = []; free = c; senders = t; receivers = t; outs = record { ops = blank 32; line = [] }; ins = record { ops = blank 32; line = [] }; permits = blank 64 }) first)
+      ∙ sym (ap (λ (b : Bool). if b then model.reply model.DONE [] [] [] (model.fresh c) else model.refuse model.BAD-CAPACITY model.nothing) good))
+    where
+      first : handlesOf (o .handles) ≡ put (blank 16) 0 tt
+      first = k .handles ∙ (ap₂ (λ (i : Option ℕ) (t : Table model.Mark). putIf i tt t) (k .number ∙ ap lowest (n .handles)) (n .handles))
+
+      good : (leb 1 c && leb c 64) ≡ true
+      good = ap₂ _&&_ (le-leb 1 c (omega arith)) (le-leb c 64 y)
+
+pub none-sound : (h : Handles) → NoHandles h → HandlesSound h
+none-sound h n = n .sound

@@ -1,0 +1,11 @@
+-- What the queue promises. Read in this order:
+--   Meaning    what a queue means, and what every call may rely on
+--   Answers    document 01's number and field for each answer
+--   Promise    the promise of make and of every call
+--   Histories  what follows for any list of calls
+--   Steps      the steps inside the calls
+pub mod Meaning
+pub mod Answers
+pub mod Promise
+pub mod Histories
+pub mod Steps

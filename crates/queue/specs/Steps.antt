@@ -1,0 +1,100 @@
+-- THE STEPS INSIDE THE CALLS, by the definition's move of each name. Assumes nothing.
+use Prim.Native.Nat.{ℕ}
+use mathlib.Core.Path.{_≡_}
+use mathlib.Core.Bool.{Bool, not, _&&_}
+use mathlib.Core.List.{List, [], _∷_}
+use lib.Dec.{eqb, ltb}
+use lib.ListN.{length}
+use Rattle.tables.specs.declared.Handles.{Handles}
+use Rattle.tables.specs.Meaning.{handlesOf}
+use Rattle.side.specs.declared.Cargo.{Cargo}
+use Rattle.side.specs.declared.Cargo.the-variants.{Nothing, Value as CValue}
+use Rattle.side.specs.declared.OptToken.{OptToken}
+use Rattle.side.specs.Meaning.{carried, tokenList}
+use Rattle.model.specs.Table.{blank, live}
+use Rattle.model.specs.Side as side
+use Rattle.model.specs.Queue as model
+use Rattle.model.specs.declared.Call.{Call}
+use Rattle.model.specs.declared.Call.the-variants.{Reserve, Send}
+use Rattle.queue.specs.declared.Queue.{Queue}
+use Rattle.queue.specs.declared.Counts.{Counts}
+use Rattle.queue.specs.declared.What.{What}
+use Rattle.queue.specs.declared.Answer.{Answer}
+use Rattle.queue.specs.declared.Turn.{Turn}
+use Rattle.queue.specs.Meaning.{queueOf, Shaped}
+use Rattle.queue.specs.Answers.{codeOf, fieldOf, ansOf, resultOf}
+
+-- an answer with these wakes and this retired token
+pub record Says (what : What) (wakes retired : List ℕ) (a : Answer) : Type 0 where
+  pub is : ansOf a ≡ record { code = codeOf what; field = fieldOf what; wakes = wakes; retired = retired }
+
+-- an answer and a queue that are the definition's `want`
+pub record Does (want : model.Result) (r : Turn) : Type 0 where
+  pub shaped : Shaped (r .queue)
+  pub is : resultOf (r .answer) (r .queue) ≡ want
+
+-- ---- moves that end a call
+pub record Notifies (q : Queue) (r : Turn) : Type 0 where
+  pub does : Does (model.doneBy (model.notify (queueOf q))) r
+
+pub record Pushes (v : ℕ) (q : Queue) (r : Turn) : Type 0 where
+  pub does : Does (model.doneBy (model.push v (queueOf q))) r
+
+-- a slot comes back in a call with this answer and this retired token
+abbrev pub releasing : ℕ → List ℕ → List ℕ → model.Queue → model.Result
+releasing code field retired q = let mv = model.release q in model.reply code field (mv .wakes) retired (mv .next)
+
+pub record Releases (what : What) (retired : OptToken) (q : Queue) (r : Turn) : Type 0 where
+  pub does : Does (releasing (codeOf what) (fieldOf what) (tokenList retired) (queueOf q)) r
+
+pub record Completes (c : Cargo) (s : ℕ) (q : Queue) (r : Turn) : Type 0 where
+  pub does : Does (model.complete (carried c) s (queueOf q) (queueOf q)) r
+
+-- what the last receiver's drop leaves, of the queue without that receiver; and the last sender's
+abbrev pub discarded : model.Queue → model.Result
+discarded q = model.reply model.DONE (length (q .values) ∷ []) (side.allTokens (q .outs)) [] (model.setValues [] (model.setOuts (side.closedLine (q .outs)) q))
+
+pub record Discards (q : Queue) (r : Turn) : Type 0 where
+  pub does : Does (discarded (queueOf q)) r
+
+abbrev pub silenced : model.Queue → model.Result
+silenced q = model.reply model.DONE [] (side.allTokens (q .ins)) [] (model.setIns (side.closedLine (q .ins)) q)
+
+pub record Silences (q : Queue) (r : Turn) : Type 0 where
+  pub does : Does (silenced (queueOf q)) r
+
+-- ---- tests
+abbrev pub ready : side.Stage → ℕ → Bool
+ready st free = eqb (side.waits st) 0 && not (eqb free 0)
+
+-- a cancelled operation at this stage passes its notice on
+abbrev pub passes : side.Stage → ℕ → ℕ → Bool
+passes st left queued = eqb (side.isCalled st) 1 && (not (eqb left 0) && ltb 0 queued)
+
+-- ---- which call opens an operation with this cargo
+abbrev pub opening : Cargo → ℕ → Call
+opening Nothing s = Reserve s
+opening (CValue v) s = Send s v
+
+-- ---- the six counts
+pub record Counted (q : Queue) (r : Counts) : Type 0 where
+  pub queued : r .queued ≡ length (queueOf q .values)
+  pub free : r .free ≡ q .free
+  pub permits : r .permits ≡ live (queueOf q .permits)
+  pub granted : r .granted ≡ side.calledCount (queueOf q .outs)
+  pub inline : r .inline ≡ length (queueOf q .outs .line)
+  pub waiting : r .waiting ≡ side.polledCount (queueOf q .ins)
+
+-- ---- a queue with nothing in it, and these handles on both sides
+pub record Blank (c : ℕ) (h : Handles) (r : Queue) : Type 0 where
+  pub shaped : Shaped r
+  pub is : queueOf r ≡ record {
+    cap = c;
+    values = [];
+    free = c;
+    senders = handlesOf h;
+    receivers = handlesOf h;
+    outs = record { ops = blank 32; line = [] };
+    ins = record { ops = blank 32; line = [] };
+    permits = blank 64;
+  }

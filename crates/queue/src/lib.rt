@@ -1,0 +1,179 @@
+// The bounded queue, after src/mpmc/queue.rs and src/mpmc/bounded.rs of asyncband 0.7.4: its record, `make`, a method for each call, one
+// dispatcher over the calls, and the entry to which a station lends its queue.
+// The meaning of a queue is the definition's (`queueOf`, specs/Meaning.antt), the promise of every call is `Turned` and that of make `Made`
+// (specs/Promise.antt); answers have document 01's numbers by specs/Answers.antt.
+mod handles;
+mod incoming;
+mod outgoing;
+mod says;
+mod status;
+
+use model::Call;
+use ring::Ring;
+use says::plain;
+use side::Cargo;
+use side::OptToken;
+use side::Side;
+use tables::Handles;
+use tables::Permits;
+use wakes::Wakes;
+ghost use Rattle.tables.specs.Meaning.{HandlesSound};
+ghost use Rattle.queue.specs.Meaning.{Sound};
+ghost use Rattle.queue.specs.Promise.{Turned, Made};
+ghost use Rattle.queue.specs.Steps.{Blank};
+
+// Only make and the calls give a queue, and nobody else reads or writes its fields.
+pub struct Queue {
+    capacity: u32,
+    values: Ring,
+    free: u32,
+    senders: Handles,
+    receivers: Handles,
+    permits: Permits,
+    outs: Side,
+    ins: Side,
+}
+
+// What status tells, in its order: values queued, free room, live permits, operations with a grant, senders in line, and incoming operations
+// whose latest poll answered Pending.
+pub struct Counts {
+    pub queued: u32,
+    pub free: u32,
+    pub permits: u32,
+    pub granted: u32,
+    pub inline: u32,
+    pub waiting: u32,
+}
+
+pub enum What {
+    Done,
+    Discarded(u32),
+    Value(u32),
+    Given(u32),
+    Pending,
+    Status(Counts),
+    Full(Cargo),
+    Empty,
+    Disconnected(Cargo),
+    BadCapacity,
+    NoHandle,
+    InUse,
+    NoRoom,
+}
+
+pub struct Answer {
+    pub what: What,
+    pub wakes: Wakes,
+    pub retired: OptToken,
+}
+
+pub struct Turn {
+    pub answer: Answer,
+    pub queue: Queue,
+}
+
+impl Queue {
+    pub const LARGEST: u32 = 64;
+
+    // A queue with nothing in it, these senders and these receivers.
+    fn blank(capacity: u32, handles: Handles) -> Queue
+        requires { ⌜ HandlesSound handles ⌝ }
+        ensures { λ r. ⌜ Blank capacity handles r ⌝ }
+    {
+        let values = Ring::fresh();
+        let permits = Permits::fresh();
+        let side = Side::fresh();
+        Queue {
+            capacity: capacity,
+            values: values,
+            free: capacity,
+            senders: handles,
+            receivers: handles,
+            permits: permits,
+            outs: side,
+            ins: side,
+        }
+    }
+
+    // A new queue with sender 0 and receiver 0. Beside a refusal stands the fixed record: no live handle, and every count nought.
+    pub fn make(capacity: u32) -> Turn
+        ensures { λ r. ⌜ Made capacity (r .answer) (r .queue) ⌝ }
+    {
+        let none = Handles::fresh();
+        if capacity == 0 {
+            let queue = Queue::blank(0, none);
+            let answer = plain(What::BadCapacity);
+            return Turn {
+                answer: answer,
+                queue: queue,
+            };
+        }
+        if Queue::LARGEST < capacity {
+            let queue = Queue::blank(0, none);
+            let answer = plain(What::BadCapacity);
+            return Turn {
+                answer: answer,
+                queue: queue,
+            };
+        }
+        let opened = none.open();
+        let first = opened.handles;
+        let queue = Queue::blank(capacity, first);
+        let answer = plain(What::Done);
+        Turn {
+            answer: answer,
+            queue: queue,
+        }
+    }
+
+    // Any call, by its name and numbers.
+    pub fn step(self, call: Call) -> Turn
+        requires { ⌜ Sound self ⌝ }
+        ensures { λ r. ⌜ Turned self call (r .answer) (r .queue) ⌝ }
+    {
+        match call {
+            Call::CloneS(s) => self.clone_s(s),
+            Call::CloneR(r) => self.clone_r(r),
+            Call::TrySend(s, v) => self.try_send(s, v),
+            Call::TryRes(s) => self.try_res(s),
+            Call::Reserve(s) => self.reserve(s),
+            Call::Send(s, v) => self.send(s, v),
+            Call::Recv(r) => self.recv(r),
+            Call::PollOut(n, t) => self.poll_out(n, t),
+            Call::CancelOut(n) => self.cancel_out(n),
+            Call::PermitSend(p, v) => self.permit_send(p, v),
+            Call::PermitDrop(p) => self.permit_drop(p),
+            Call::TryRecv(r) => self.try_recv(r),
+            Call::PollIn(n, t) => self.poll_in(n, t),
+            Call::CancelIn(n) => self.cancel_in(n),
+            Call::DropS(s) => self.drop_s(s),
+            Call::DropR(r) => self.drop_r(r),
+            Call::Status => self.status(),
+        }
+    }
+}
+
+// The entry for a station that keeps its queue in a record and lends it for one call: the record afterwards holds the next queue.
+pub fn serve(q: &mut Queue, c: Call) -> Answer
+    requires { ⌜ Sound (now q) ⌝ }
+    ensures { λ r. ⌜ Turned (now (q .entry)) c r (now (q .exit)) ⌝ }
+{
+    let taken = *q;
+    let turn = taken.step(c);
+    let next = turn.queue;
+    *q = next;
+    turn.answer
+}
+
+// The entry as a caller with plain parameters uses it: what is lent here is a local.
+pub fn served(q: Queue, c: Call) -> Turn
+    requires { ⌜ Sound q ⌝ }
+    ensures { λ r. ⌜ Turned q c (r .answer) (r .queue) ⌝ }
+{
+    let mut held = q;
+    let answer = serve(&mut held, c);
+    Turn {
+        answer: answer,
+        queue: held,
+    }
+}

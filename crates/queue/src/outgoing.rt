@@ -1,0 +1,389 @@
+// What senders do: try-send, permits, and the operations reserve and send. After src/mpmc/queue.rs of asyncband 0.7.4 (State::acquire,
+// State::release, State::push, Reserve, Permit).
+use crate::Queue;
+use crate::Turn;
+use crate::What;
+use crate::says::plain;
+use crate::says::say;
+use side::Cargo;
+use side::Entry;
+use side::OptToken;
+use side::Stage;
+use side::View;
+use side::Woken;
+use tables::Number;
+ghost use mathlib.Core.Path.{_≡_};
+ghost use lib.ListN.{length};
+ghost use Prim.Native.Nat.{_<_, _≤_};
+ghost use Rattle.side.specs.declared.View.the-variants.{Found};
+ghost use Rattle.side.specs.Meaning.{stageOf};
+ghost use Rattle.side.specs.Calls.{Sees};
+ghost use Rattle.model.specs.declared.Call.the-variants.{TrySend, TryRes, Reserve, Send, PollOut, CancelOut, PermitSend, PermitDrop};
+ghost use Rattle.queue.specs.Meaning.{queueOf, Shaped, Sound};
+ghost use Rattle.queue.specs.Promise.{Turned};
+ghost use Rattle.queue.specs.Steps.{Notifies, Pushes, Releases, Completes, opening, ready};
+
+// May an operation at this stage take a free slot? Not one that waits in line.
+fn is_ready(stage: Stage, free: u32) -> bool
+    ensures { λ r. ⌜ r ≡ ready (stageOf stage) free ⌝ }
+{
+    match stage {
+        Stage::Waiting(_) => false,
+        Stage::Idle => free != 0,
+        Stage::Called => free != 0,
+        Stage::Void => free != 0,
+    }
+}
+
+impl Queue {
+    // The first receiver in line, if any, is notified: 0.
+    pub fn notify(mut self) -> Turn
+        requires { ⌜ Shaped self ⌝ }
+        ensures { λ r. ⌜ Notifies self r ⌝ }
+    {
+        let ins = self.ins;
+        if ins.line_is_empty() {
+            let answer = plain(What::Done);
+            return Turn {
+                answer: answer,
+                queue: self,
+            };
+        }
+        let called = ins.call_first();
+        let woken = called.woken;
+        let side = called.side;
+        self.ins = side;
+        let answer = say(What::Done, woken, OptToken::NoToken);
+        Turn {
+            answer: answer,
+            queue: self,
+        }
+    }
+
+    // A value goes to the end, and the first receiver in line, if any, is notified: 0.
+    fn push(mut self, v: u32) -> Turn
+        requires { ⌜ Shaped self ⌝ }
+        requires { ⌜ length (queueOf self .values) < 64 ⌝ }
+        ensures { λ r. ⌜ Pushes v self r ⌝ }
+    {
+        let values = self.values;
+        self.values = values.push_back(v);
+        self.notify()
+    }
+
+    // A slot comes back: to the first sender in line, else to the free room; after the last receiver to nobody. The answer is `what`, with the
+    // token that the call retires.
+    pub fn release(mut self, what: What, retired: OptToken) -> Turn
+        requires { ⌜ Shaped self ⌝ }
+        requires { ⌜ self .free ≤ 64 ⌝ }
+        ensures { λ r. ⌜ Releases what retired self r ⌝ }
+    {
+        let receivers = self.receivers;
+        let left = receivers.count();
+        if left == 0 {
+            let answer = say(what, Woken::Nobody, retired);
+            return Turn {
+                answer: answer,
+                queue: self,
+            };
+        }
+        let outs = self.outs;
+        if outs.line_is_empty() {
+            self.free = self.free + 1;
+            let answer = say(what, Woken::Nobody, retired);
+            return Turn {
+                answer: answer,
+                queue: self,
+            };
+        }
+        let called = outs.call_first();
+        let woken = called.woken;
+        let side = called.side;
+        self.outs = side;
+        let answer = say(what, woken, retired);
+        Turn {
+            answer: answer,
+            queue: self,
+        }
+    }
+
+    pub fn try_send(mut self, s: u32, v: u32) -> Turn
+        requires { ⌜ Sound self ⌝ }
+        ensures { λ r. ⌜ Turned self (TrySend s v) (r .answer) (r .queue) ⌝ }
+    {
+        let senders = self.senders;
+        if !senders.has(s) {
+            let answer = plain(What::NoHandle);
+            return Turn {
+                answer: answer,
+                queue: self,
+            };
+        }
+        let receivers = self.receivers;
+        let left = receivers.count();
+        if left == 0 {
+            let answer = plain(What::Disconnected(Cargo::Value(v)));
+            return Turn {
+                answer: answer,
+                queue: self,
+            };
+        }
+        let free = self.free;
+        if free == 0 {
+            let answer = plain(What::Full(Cargo::Value(v)));
+            return Turn {
+                answer: answer,
+                queue: self,
+            };
+        }
+        self.free = free - 1;
+        self.push(v)
+    }
+
+    // An outgoing operation that has its slot in hand and is gone from its side: a reserve ends with a permit of its sender, a send with a push.
+    fn complete(mut self, cargo: Cargo, owner: u32) -> Turn
+        requires { ⌜ Shaped self ⌝ }
+        requires { ⌜ length (queueOf self .values) < 64 ⌝ }
+        ensures { λ r. ⌜ Completes cargo owner self r ⌝ }
+    {
+        match cargo {
+            Cargo::Nothing => {
+                let permits = self.permits;
+                let given = permits.open(owner);
+                let number = given.number;
+                let table = given.permits;
+                match number {
+                    Number::NoRoom => {
+                        let answer = plain(What::NoRoom);
+                        Turn {
+                            answer: answer,
+                            queue: self,
+                        }
+                    }
+                    Number::Given(p) => {
+                        self.permits = table;
+                        let answer = plain(What::Given(p));
+                        Turn {
+                            answer: answer,
+                            queue: self,
+                        }
+                    }
+                }
+            }
+            Cargo::Value(v) => self.push(v),
+        }
+    }
+
+    pub fn try_res(mut self, s: u32) -> Turn
+        requires { ⌜ Sound self ⌝ }
+        ensures { λ r. ⌜ Turned self (TryRes s) (r .answer) (r .queue) ⌝ }
+    {
+        let senders = self.senders;
+        if !senders.has(s) {
+            let answer = plain(What::NoHandle);
+            return Turn {
+                answer: answer,
+                queue: self,
+            };
+        }
+        let receivers = self.receivers;
+        let left = receivers.count();
+        if left == 0 {
+            let answer = plain(What::Disconnected(Cargo::Nothing));
+            return Turn {
+                answer: answer,
+                queue: self,
+            };
+        }
+        let free = self.free;
+        if free == 0 {
+            let answer = plain(What::Full(Cargo::Nothing));
+            return Turn {
+                answer: answer,
+                queue: self,
+            };
+        }
+        self.free = free - 1;
+        self.complete(Cargo::Nothing, s)
+    }
+
+    // A reserve or a send is opened, by what it carries.
+    fn open_out(mut self, s: u32, cargo: Cargo) -> Turn
+        requires { ⌜ Sound self ⌝ }
+        ensures { λ r. ⌜ Turned self (opening cargo s) (r .answer) (r .queue) ⌝ }
+    {
+        let senders = self.senders;
+        if !senders.has(s) {
+            let answer = plain(What::NoHandle);
+            return Turn {
+                answer: answer,
+                queue: self,
+            };
+        }
+        let outs = self.outs;
+        let opened = outs.open(s, cargo);
+        let number = opened.number;
+        let side = opened.side;
+        match number {
+            Number::NoRoom => {
+                let answer = plain(What::NoRoom);
+                Turn {
+                    answer: answer,
+                    queue: self,
+                }
+            }
+            Number::Given(n) => {
+                self.outs = side;
+                let answer = plain(What::Given(n));
+                Turn {
+                    answer: answer,
+                    queue: self,
+                }
+            }
+        }
+    }
+
+    pub fn reserve(self, s: u32) -> Turn
+        requires { ⌜ Sound self ⌝ }
+        ensures { λ r. ⌜ Turned self (Reserve s) (r .answer) (r .queue) ⌝ }
+    {
+        self.open_out(s, Cargo::Nothing)
+    }
+
+    pub fn send(self, s: u32, v: u32) -> Turn
+        requires { ⌜ Sound self ⌝ }
+        ensures { λ r. ⌜ Turned self (Send s v) (r .answer) (r .queue) ⌝ }
+    {
+        self.open_out(s, Cargo::Value(v))
+    }
+
+    // poll-out of the operation n, which is open.
+    fn poll_open(mut self, n: u32, token: u32, op: Entry) -> Turn
+        requires { ⌜ Sound self ⌝ }
+        requires { ⌜ Sees (self .outs) n (Found op) ⌝ }
+        ensures { λ r. ⌜ Turned self (PollOut n token) (r .answer) (r .queue) ⌝ }
+    {
+        let outs = self.outs;
+        let cargo = op.cargo;
+        let stage = op.stage;
+        let owner = op.owner;
+        let receivers = self.receivers;
+        let left = receivers.count();
+        if left == 0 {
+            self.outs = outs.end(n);
+            let answer = plain(What::Disconnected(cargo));
+            return Turn {
+                answer: answer,
+                queue: self,
+            };
+        }
+        if stage.is_called() {
+            self.outs = outs.end(n);
+            return self.complete(cargo, owner);
+        }
+        let free = self.free;
+        if is_ready(stage, free) {
+            self.outs = outs.end(n);
+            self.free = free - 1;
+            return self.complete(cargo, owner);
+        }
+        let pended = outs.pend(n, token);
+        let retired = pended.retired;
+        let side = pended.side;
+        self.outs = side;
+        let answer = say(What::Pending, Woken::Nobody, retired);
+        Turn {
+            answer: answer,
+            queue: self,
+        }
+    }
+
+    pub fn poll_out(self, n: u32, token: u32) -> Turn
+        requires { ⌜ Sound self ⌝ }
+        ensures { λ r. ⌜ Turned self (PollOut n token) (r .answer) (r .queue) ⌝ }
+    {
+        let outs = self.outs;
+        let view = outs.get(n);
+        match view {
+            View::Missing => {
+                let answer = plain(What::NoHandle);
+                Turn {
+                    answer: answer,
+                    queue: self,
+                }
+            }
+            View::Found(op) => self.poll_open(n, token, op),
+        }
+    }
+
+    pub fn cancel_out(mut self, n: u32) -> Turn
+        requires { ⌜ Sound self ⌝ }
+        ensures { λ r. ⌜ Turned self (CancelOut n) (r .answer) (r .queue) ⌝ }
+    {
+        let outs = self.outs;
+        let view = outs.get(n);
+        match view {
+            View::Missing => {
+                let answer = plain(What::NoHandle);
+                Turn {
+                    answer: answer,
+                    queue: self,
+                }
+            }
+            View::Found(op) => {
+                let stage = op.stage;
+                self.outs = outs.end(n);
+                if stage.is_called() {
+                    return self.release(What::Done, OptToken::NoToken);
+                }
+                let kept = stage.kept();
+                let answer = say(What::Done, Woken::Nobody, kept);
+                Turn {
+                    answer: answer,
+                    queue: self,
+                }
+            }
+        }
+    }
+
+    pub fn permit_send(mut self, p: u32, v: u32) -> Turn
+        requires { ⌜ Sound self ⌝ }
+        ensures { λ r. ⌜ Turned self (PermitSend p v) (r .answer) (r .queue) ⌝ }
+    {
+        let permits = self.permits;
+        if !permits.has(p) {
+            let answer = plain(What::NoHandle);
+            return Turn {
+                answer: answer,
+                queue: self,
+            };
+        }
+        self.permits = permits.close(p);
+        let receivers = self.receivers;
+        let left = receivers.count();
+        if left == 0 {
+            let answer = plain(What::Disconnected(Cargo::Value(v)));
+            return Turn {
+                answer: answer,
+                queue: self,
+            };
+        }
+        self.push(v)
+    }
+
+    pub fn permit_drop(mut self, p: u32) -> Turn
+        requires { ⌜ Sound self ⌝ }
+        ensures { λ r. ⌜ Turned self (PermitDrop p) (r .answer) (r .queue) ⌝ }
+    {
+        let permits = self.permits;
+        if !permits.has(p) {
+            let answer = plain(What::NoHandle);
+            return Turn {
+                answer: answer,
+                queue: self,
+            };
+        }
+        self.permits = permits.close(p);
+        self.release(What::Done, OptToken::NoToken)
+    }
+}

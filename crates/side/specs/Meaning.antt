@@ -1,0 +1,115 @@
+-- THE MEANING OF A SIDE: the model's side, whose job is what an operation carries. Assumes nothing.
+use Prim.Native.Nat.{ℕ}
+use mathlib.Core.List.{List, [], _∷_, map}
+use mathlib.Core.Option.{Option, none, some}
+use Rattle.arena.specs.declared.WaiterId.{WaiterId}
+use Rattle.arena.specs.declared.Waiter.the-variants.{Waiting, Called}
+use Rattle.waitlist.specs.declared.WaitList.{WaitList}
+use Rattle.waitlist.specs.declared.Held.{Held}
+use Rattle.waitlist.specs.declared.Held.the-variants.{Empty, Holding}
+use Rattle.waitlist.specs.View.{held, along, opOf}
+use Rattle.live.specs.Bits.{liveOf}
+use Rattle.live.specs.Table.{held as table}
+use Rattle.model.specs.Table.{Table, same}
+use Rattle.model.specs.Side as model
+use Rattle.model.specs.Queue.{Job, bare, carrying}
+use Rattle.model.specs.Side.{idle, waiting, called, void}
+use Rattle.side.specs.declared.Cargo.{Cargo}
+use Rattle.side.specs.declared.Cargo.the-variants.{Nothing, Value}
+use Rattle.side.specs.declared.Mark.{Mark}
+use Rattle.side.specs.declared.Mark.the-variants.{Idle, At, Void}
+use Rattle.side.specs.declared.Op.{Op}
+use Rattle.side.specs.declared.Side.{Side}
+use Rattle.side.specs.declared.Stage.{Stage}
+use Rattle.side.specs.declared.Stage.the-variants.{Idle as SIdle, Waiting as SWaiting, Called as SCalled, Void as SVoid}
+use Rattle.side.specs.declared.Entry.{Entry}
+use Rattle.side.specs.declared.View.{View}
+use Rattle.side.specs.declared.View.the-variants.{Missing, Found}
+use Rattle.side.specs.declared.Asked.{Asked}
+use Rattle.side.specs.declared.Asked.the-variants.{Owned, Called as AskCalled, Polled}
+use Rattle.side.specs.declared.OptToken.{OptToken}
+use Rattle.side.specs.declared.OptToken.the-variants.{NoToken, Token}
+use Rattle.side.specs.declared.Woken.{Woken}
+use Rattle.side.specs.declared.Woken.the-variants.{Nobody as NoOne, Op as OneOp}
+
+-- an operation of the model
+abbrev pub Deed : Type 0
+Deed = model.Op Job
+
+abbrev pub carried : Cargo → Job
+carried Nothing = bare
+carried (Value v) = carrying v
+
+-- what stands at a number that was never given (and what a read past the end of the table stands for)
+abbrev pub freshOp : Op
+freshOp = record { owner = 0; cargo = Nothing; mark = Idle }
+
+-- the stage that a node tells (where there is no node: void; never asked of a sound side)
+abbrev pub stageIn : Held → model.Stage
+stageIn Empty = void
+stageIn (Holding op (Waiting t)) = waiting t
+stageIn (Holding op Called) = called
+
+abbrev pub stageBy : WaitList → Mark → model.Stage
+stageBy w Idle = idle
+stageBy w (At id) = stageIn (held w (id .0 .0))
+stageBy w Void = void
+
+abbrev pub deedBy : WaitList → Op → Deed
+deedBy w op = record { owner = op .owner; job = carried (op .cargo); stage = stageBy w (op .mark) }
+
+abbrev pub through : {A B : Type 0} → (A → B) → Option A → Option B
+through f none = none
+through f (some a) = some (f a)
+
+-- a table of operations beside a wait list, as the model has it
+abbrev pub opsOf : List (Option Op) → WaitList → Table Deed
+opsOf t w = map (through (deedBy w)) t
+
+-- the live operations, each at its number
+abbrev pub tableOf : Side → List (Option Op)
+tableOf s = table (liveOf (s .live)) (s .ops)
+
+unfoldable pub sideOf : Side → model.Side Job
+sideOf s = record { ops = opsOf (tableOf s) (s .waiters); line = along opOf (s .waiters) }
+
+-- ---- answers
+abbrev pub stageOf : Stage → model.Stage
+stageOf SIdle = idle
+stageOf (SWaiting t) = waiting t
+stageOf SCalled = called
+stageOf SVoid = void
+
+abbrev pub deedOf : Entry → Deed
+deedOf e = record { owner = e .owner; job = carried (e .cargo); stage = stageOf (e .stage) }
+
+abbrev pub viewed : View → Option Deed
+viewed Missing = none
+viewed (Found e) = some (deedOf e)
+
+abbrev pub tokenList : OptToken → List ℕ
+tokenList NoToken = []
+tokenList (Token t) = t ∷ []
+
+abbrev pub wokenTokens : Woken → List ℕ
+wokenTokens NoOne = []
+wokenTokens (OneOp n t) = t ∷ []
+
+abbrev pub wokenOps : Woken → List ℕ
+wokenOps NoOne = []
+wokenOps (OneOp n t) = n ∷ []
+
+-- ---- an operation as its line is closed for good
+abbrev pub voidMark : Mark → Mark
+voidMark Idle = Idle
+voidMark (At id) = Void
+voidMark Void = Void
+
+abbrev pub voided : Op → Op
+voided op = record { owner = op .owner; cargo = op .cargo; mark = voidMark (op .mark) }
+
+-- ---- 1 or 0, as the model's counts take an operation
+abbrev pub counts : Asked → Deed → ℕ
+counts (Owned h) op = same h (op .owner)
+counts AskCalled op = model.isCalled (op .stage)
+counts Polled op = model.polled (op .stage)

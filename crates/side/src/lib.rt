@@ -1,0 +1,590 @@
+// One side of the queue: its open operations and the line in which they wait. The outgoing and the incoming side are two of these.
+// Its meaning is the `Side` of the model (`sideOf`, specs/Meaning.antt): the table of the open operations and the line by their numbers;
+// each method is the model's move or count of that name (specs/Calls.antt). What ties operations to wait nodes is `Sound` (specs/Sound.antt).
+use arena::OptWaiter;
+use arena::Waiter;
+use arena::WaiterId;
+use live::Live;
+use tables::Number;
+use waitlist::Held;
+use waitlist::WaitList;
+use wakes::Wakes;
+ghost use mathlib.Core.Path.{_≡_};
+ghost use mathlib.Core.List.{map};
+ghost use Prim.Native.Nat.{ℕ, _<_};
+ghost use lib.Dec.{eqb};
+ghost use lib.ListN.{length};
+ghost use Rattle.waitlist.specs.Sound as wait;
+ghost use Rattle.waitlist.specs.View.{isNil};
+ghost use Rattle.model.specs.Side as model;
+ghost use Rattle.side.specs.Meaning.{freshOp, sideOf, stageOf, stageBy, deedOf, viewed, tokenList, voided, counts};
+ghost use Rattle.model.specs.Table.{of, sum};
+ghost use Rattle.side.specs.Sound.{Sound};
+ghost use Rattle.side.specs.Calls.{Open, Alone, Fresh, Sees, Leaves, Refreshed, Detaches, Joins, Opens, Ends, Pends, CallsOne, Closes, wokenOf};
+
+// What an operation carries: a send its value, a reserve and a recv nothing.
+pub enum Cargo {
+    Nothing,
+    Value(u32),
+}
+
+// Where an operation waits: not polled yet; in this node, in line or called; nowhere, since its line was closed for good.
+pub enum Mark {
+    Idle,
+    At(WaiterId),
+    Void,
+}
+
+pub struct Op {
+    pub owner: u32,
+    pub cargo: Cargo,
+    pub mark: Mark,
+}
+
+pub struct Side {
+    pub live: Live,
+    pub ops: [Op; 32],
+    pub waiters: WaitList,
+}
+
+// How far an operation is, as its caller sees it.
+pub enum Stage {
+    Idle,
+    Waiting(u32),
+    Called,
+    Void,
+}
+
+pub struct Entry {
+    pub owner: u32,
+    pub cargo: Cargo,
+    pub stage: Stage,
+}
+
+pub enum View {
+    Missing,
+    Found(Entry),
+}
+
+pub enum OptToken {
+    NoToken,
+    Token(u32),
+}
+
+// The operation that was called, with the token to wake.
+pub enum Woken {
+    Nobody,
+    Op { number: u8, token: u32 },
+}
+
+pub struct Opened {
+    pub number: Number,
+    pub side: Side,
+}
+
+pub struct Pended {
+    pub retired: OptToken,
+    pub side: Side,
+}
+
+pub struct CalledOne {
+    pub woken: Woken,
+    pub side: Side,
+}
+
+pub struct Closed {
+    pub wakes: Wakes,
+    pub side: Side,
+}
+
+impl Op {
+    pub const LIMIT: u32 = 32;
+
+    // What stands at a number that was never given.
+    pub fn fresh() -> Op
+        ensures { λ r. ⌜ r ≡ freshOp ⌝ }
+    {
+        Op {
+            owner: 0,
+            cargo: Cargo::Nothing,
+            mark: Mark::Idle,
+        }
+    }
+}
+
+impl Stage {
+    // The token that the queue keeps for an operation: it has one just where it is in line.
+    pub fn kept(self) -> OptToken
+        ensures { λ r. ⌜ tokenList r ≡ model.kept (stageOf self) ⌝ }
+    {
+        match self {
+            Stage::Waiting(t) => OptToken::Token(t),
+            Stage::Idle => OptToken::NoToken,
+            Stage::Called => OptToken::NoToken,
+            Stage::Void => OptToken::NoToken,
+        }
+    }
+}
+
+// What the counts are of: the operations of a handle, those that are called, those that were polled.
+enum Asked {
+    Owned(u32),
+    Called,
+    Polled,
+}
+
+// 1 or 0, as the counts take an operation; nothing counts at a number that is not open.
+impl Stage {
+    fn called(self) -> u32
+        ensures { λ r. ⌜ r ≡ model.isCalled (stageOf self) ⌝ }
+    {
+        match self {
+            Stage::Called => 1,
+            Stage::Idle => 0,
+            Stage::Waiting(_) => 0,
+            Stage::Void => 0,
+        }
+    }
+
+    // Has it its grant or its notice?
+    pub fn is_called(self) -> bool
+        ensures { λ r. ⌜ r ≡ eqb (model.isCalled (stageOf self)) 1 ⌝ }
+    {
+        let called = self.called();
+        called == 1
+    }
+
+    fn polled(self) -> u32
+        ensures { λ r. ⌜ r ≡ model.polled (stageOf self) ⌝ }
+    {
+        match self {
+            Stage::Idle => 0,
+            Stage::Waiting(_) => 1,
+            Stage::Called => 1,
+            Stage::Void => 1,
+        }
+    }
+}
+
+impl Entry {
+    fn counted(self, asked: Asked) -> u32
+        ensures { λ r. ⌜ r ≡ counts asked (deedOf self) ⌝ }
+    {
+        let stage = self.stage;
+        match asked {
+            Asked::Owned(owner) => if owner == self.owner { 1 } else { 0 },
+            Asked::Called => stage.called(),
+            Asked::Polled => stage.polled(),
+        }
+    }
+}
+
+impl View {
+    fn counted(self, asked: Asked) -> u32
+        ensures { λ r. ⌜ r ≡ of (counts asked) (viewed self) ⌝ }
+    {
+        match self {
+            View::Missing => 0,
+            View::Found(e) => e.counted(asked),
+        }
+    }
+}
+
+// How far an operation with this mark is. (A node that the mark names is there: that arm is never taken.)
+fn stage_of(waiters: WaitList, mark: Mark) -> Stage
+    requires { ⌜ wait.Sound waiters ⌝ }
+    ensures { λ r. ⌜ stageOf r ≡ stageBy waiters mark ⌝ }
+{
+    match mark {
+        Mark::Idle => Stage::Idle,
+        Mark::Void => Stage::Void,
+        Mark::At(id) => {
+            let held = waiters.waiter(id);
+            match held {
+                Held::Empty => Stage::Void,
+                Held::Holding { op: _, waiter } => match waiter {
+                    Waiter::Waiting(t) => Stage::Waiting(t),
+                    Waiter::Called => Stage::Called,
+                },
+            }
+        }
+    }
+}
+
+// The node goes, in line or not: remove_waiter of queue.rs.
+fn remove_waiter(waiters: WaitList, id: WaiterId) -> WaitList
+    requires { ⌜ wait.Sound waiters ⌝ }
+    ensures { λ r. ⌜ Leaves waiters (id .0 .0) r ⌝ }
+{
+    let out = waiters.unlink_waiter(id);
+    let gone = out.remove_unlinked(id);
+    gone.list
+}
+
+// The node, if the mark names one, holds another token.
+fn refreshed(waiters: WaitList, mark: Mark, token: u32) -> WaitList
+    requires { ⌜ wait.Sound waiters ⌝ }
+    ensures { λ r. ⌜ Refreshed waiters mark token r ⌝ }
+{
+    match mark {
+        Mark::At(id) => waiters.set_waiter(id, Waiter::Waiting(token)),
+        Mark::Idle => waiters,
+        Mark::Void => waiters,
+    }
+}
+
+// The token that goes back where `new` takes the place of `old`.
+fn replaced(old: u32, new: u32) -> OptToken
+    ensures { λ r. ⌜ tokenList r ≡ model.replaced (model.waiting old) new ⌝ }
+{
+    if old == new {
+        return OptToken::NoToken;
+    }
+    OptToken::Token(old)
+}
+
+fn woken_of(held: Held) -> Woken
+    ensures { λ r. ⌜ r ≡ wokenOf held ⌝ }
+{
+    match held {
+        Held::Empty => Woken::Nobody,
+        Held::Holding { op, waiter } => match waiter {
+            Waiter::Waiting(t) => Woken::Op {
+                number: op,
+                token: t,
+            },
+            Waiter::Called => Woken::Nobody,
+        },
+    }
+}
+
+// The operation as its line is closed for good.
+fn void(op: Op) -> Op
+    ensures { λ r. ⌜ r ≡ voided op ⌝ }
+{
+    let mark = op.mark;
+    match mark {
+        Mark::Idle => op,
+        Mark::Void => op,
+        Mark::At(_) => {
+            let cargo = op.cargo;
+            Op {
+                owner: op.owner,
+                cargo: cargo,
+                mark: Mark::Void,
+            }
+        }
+    }
+}
+
+fn void_all(ops: [Op; 32]) -> [Op; 32]
+    requires { ⌜ length ops ≡ 32 ⌝ }
+    ensures { λ r. ⌜ r ≡ map voided ops ⌝ }
+{
+    let mut out = ops;
+    let mut i: usize = 0;
+    while i < 32 {
+        let op = out[i];
+        let new = void(op);
+        out[i] = new;
+        i += 1;
+    }
+    out
+}
+
+impl Side {
+    pub fn fresh() -> Side
+        ensures { λ r. ⌜ Fresh r ⌝ }
+    {
+        let live = Live::fresh();
+        let op = Op::fresh();
+        let ops = [op; 32];
+        let waiters = WaitList::new();
+        Side {
+            live: live,
+            ops: ops,
+            waiters: waiters,
+        }
+    }
+
+    // The operation with the number n, if there is one.
+    pub fn get(self, n: u32) -> View
+        requires { ⌜ Sound self ⌝ }
+        ensures { λ r. ⌜ Sees self n r ⌝ }
+    {
+        let live = self.live;
+        if live.has(n) {
+            let i = n as usize;
+            let op = self.ops[i];
+            let mark = op.mark;
+            let cargo = op.cargo;
+            let waiters = self.waiters;
+            let stage = stage_of(waiters, mark);
+            return View::Found(Entry {
+                owner: op.owner,
+                cargo: cargo,
+                stage: stage,
+            });
+        }
+        View::Missing
+    }
+
+    // An operation is opened at the lowest free number, if there is one.
+    pub fn open(self, owner: u32, cargo: Cargo) -> Opened
+        requires { ⌜ Sound self ⌝ }
+        ensures { λ r. ⌜ Opens self owner cargo r ⌝ }
+    {
+        let live = self.live;
+        let n = live.lowest();
+        if n < Op::LIMIT {
+            let i = n as usize;
+            let mut ops = self.ops;
+            ops[i] = Op {
+                owner: owner,
+                cargo: cargo,
+                mark: Mark::Idle,
+            };
+            let grown = live.with(n);
+            let waiters = self.waiters;
+            return Opened {
+                number: Number::Given(n),
+                side: Side {
+                    live: grown,
+                    ops: ops,
+                    waiters: waiters,
+                },
+            };
+        }
+        Opened {
+            number: Number::NoRoom,
+            side: self,
+        }
+    }
+
+    // Operation n has no node any more, in line or called.
+    fn detach(self, n: u32) -> Side
+        requires { ⌜ Sound self ⌝ }
+        requires { ⌜ Open self n ⌝ }
+        ensures { λ r. ⌜ Detaches self n r ⌝ }
+    {
+        let i = n as usize;
+        let op = self.ops[i];
+        let mark = op.mark;
+        match mark {
+            Mark::Idle => self,
+            Mark::Void => self,
+            Mark::At(id) => {
+                let cargo = op.cargo;
+                let mut ops = self.ops;
+                ops[i] = Op {
+                    owner: op.owner,
+                    cargo: cargo,
+                    mark: Mark::Idle,
+                };
+                let line = self.waiters;
+                let waiters = remove_waiter(line, id);
+                let live = self.live;
+                Side {
+                    live: live,
+                    ops: ops,
+                    waiters: waiters,
+                }
+            }
+        }
+    }
+
+    // Operation n, which has no node, joins the end of the line. There is room for its node: each other node has an operation of its own.
+    fn join(self, n: u32, token: u32) -> Side
+        requires { ⌜ Sound self ⌝ }
+        requires { ⌜ Open self n ⌝ }
+        requires { ⌜ Alone self n ⌝ }
+        ensures { λ r. ⌜ Joins self n token r ⌝ }
+    {
+        let i = n as usize;
+        let op = self.ops[i];
+        let line = self.waiters;
+        let number = n as u8;
+        let put = line.push_back(number, Waiter::Waiting(token));
+        let id = put.id;
+        let waiters = put.list;
+        let cargo = op.cargo;
+        let mut ops = self.ops;
+        ops[i] = Op {
+            owner: op.owner,
+            cargo: cargo,
+            mark: Mark::At(id),
+        };
+        let live = self.live;
+        Side {
+            live: live,
+            ops: ops,
+            waiters: waiters,
+        }
+    }
+
+    // Operation n ends, and leaves the line if it stands there.
+    pub fn end(self, n: u32) -> Side
+        requires { ⌜ Sound self ⌝ }
+        requires { ⌜ Open self n ⌝ }
+        ensures { λ r. ⌜ Ends self n r ⌝ }
+    {
+        let out = self.detach(n);
+        let was = out.live;
+        let live = was.without(n);
+        let ops = out.ops;
+        let waiters = out.waiters;
+        Side {
+            live: live,
+            ops: ops,
+            waiters: waiters,
+        }
+    }
+
+    // Operation n stays pending with the token: in line it keeps its place, else it joins the tail. (register of queue.rs)
+    pub fn pend(self, n: u32, token: u32) -> Pended
+        requires { ⌜ Sound self ⌝ }
+        requires { ⌜ Open self n ⌝ }
+        ensures { λ r. ⌜ Pends self n token r ⌝ }
+    {
+        let i = n as usize;
+        let op = self.ops[i];
+        let mark = op.mark;
+        let line = self.waiters;
+        let stage = stage_of(line, mark);
+        let kept = stage.kept();
+        match kept {
+            OptToken::Token(old) => {
+                let retired = replaced(old, token);
+                let waiters = refreshed(line, mark, token);
+                let live = self.live;
+                let ops = self.ops;
+                Pended {
+                    retired: retired,
+                    side: Side {
+                        live: live,
+                        ops: ops,
+                        waiters: waiters,
+                    },
+                }
+            }
+            OptToken::NoToken => {
+                let out = self.detach(n);
+                let side = out.join(n, token);
+                Pended {
+                    retired: OptToken::NoToken,
+                    side: side,
+                }
+            }
+        }
+    }
+
+    // The first in line, if any, is called and leaves the line: notify_one and grant_one of queue.rs.
+    pub fn call_first(self) -> CalledOne
+        requires { ⌜ Sound self ⌝ }
+        ensures { λ r. ⌜ CallsOne self r ⌝ }
+    {
+        let line = self.waiters;
+        let out = wakes::call_first(line);
+        let who = out.who;
+        match who {
+            OptWaiter::Nobody => CalledOne {
+                woken: Woken::Nobody,
+                side: self,
+            },
+            OptWaiter::Id(_) => {
+                let held = out.held;
+                let woken = woken_of(held);
+                let waiters = out.list;
+                let live = self.live;
+                let ops = self.ops;
+                CalledOne {
+                    woken: woken,
+                    side: Side {
+                        live: live,
+                        ops: ops,
+                        waiters: waiters,
+                    },
+                }
+            }
+        }
+    }
+
+    // The line is closed for good: all its tokens are woken in order, and no operation has a node any more.
+    pub fn close_line(self) -> Closed
+        requires { ⌜ Sound self ⌝ }
+        ensures { λ r. ⌜ Closes self r ⌝ }
+    {
+        let line = self.waiters;
+        let wakes = wakes::wake_all(line);
+        let was = self.ops;
+        let ops = void_all(was);
+        let waiters = WaitList::new();
+        let live = self.live;
+        Closed {
+            wakes: wakes,
+            side: Side {
+                live: live,
+                ops: ops,
+                waiters: waiters,
+            },
+        }
+    }
+
+    // Is nobody in line?
+    pub fn line_is_empty(self) -> bool
+        requires { ⌜ Sound self ⌝ }
+        ensures { λ r. ⌜ r ≡ isNil (sideOf self .line) ⌝ }
+    {
+        let waiters = self.waiters;
+        waiters.is_empty()
+    }
+
+    // How many wait in line.
+    pub fn in_line(self) -> u32
+        requires { ⌜ Sound self ⌝ }
+        ensures { λ r. ⌜ r ≡ length (sideOf self .line) ⌝ }
+    {
+        let waiters = self.waiters;
+        let wakes = wakes::wake_all(waiters);
+        wakes.n as u32
+    }
+
+    fn count(self, asked: Asked) -> u32
+        requires { ⌜ Sound self ⌝ }
+        ensures { λ r. ⌜ r ≡ sum (counts asked) (sideOf self .ops) ⌝ }
+    {
+        let mut total: u32 = 0;
+        let mut n: u32 = 0;
+        while n < Op::LIMIT {
+            let view = self.get(n);
+            let one = view.counted(asked);
+            total += one;
+            n += 1;
+        }
+        total
+    }
+
+    // How many belong to a handle.
+    pub fn owned_by(self, owner: u32) -> u32
+        requires { ⌜ Sound self ⌝ }
+        ensures { λ r. ⌜ r ≡ model.ownedBy owner (sideOf self) ⌝ }
+    {
+        self.count(Asked::Owned(owner))
+    }
+
+    // How many are called.
+    pub fn called(self) -> u32
+        requires { ⌜ Sound self ⌝ }
+        ensures { λ r. ⌜ r ≡ model.calledCount (sideOf self) ⌝ }
+    {
+        self.count(Asked::Called)
+    }
+
+    // How many were polled.
+    pub fn polled(self) -> u32
+        requires { ⌜ Sound self ⌝ }
+        ensures { λ r. ⌜ r ≡ model.polledCount (sideOf self) ⌝ }
+    {
+        self.count(Asked::Polled)
+    }
+}

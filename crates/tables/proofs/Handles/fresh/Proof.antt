@@ -1,0 +1,15 @@
+-- `tables::Handles::fresh` meets its contract.
+-- Assumes nothing.
+use Rattle.tables.proofs.Laws.{no-handles}
+use borrow.Author.Needs.{needs}
+use Rattle.tables.proofs.Handles.fresh.Statement.{statement}
+use Rattle.tables.proofs.Handles.fresh.Tie as tie
+
+fresh-requires : tie.Need-fresh-requires
+fresh-requires c κs = search needs
+
+returns : tie.Need-returns
+returns c = search no-handles
+
+pub fresh-spec : {M : Type 1} → statement M
+fresh-spec = tie.close (tie.spec fresh-requires returns)
