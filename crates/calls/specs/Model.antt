@@ -3,6 +3,7 @@
 use Prim.Native.Nat.{ℕ}
 use mathlib.Core.Path.{_≡_}
 use mathlib.Core.List.{[]}
+use mathlib.Core.Bool.{true}
 use mathlib.Core.Option.{Option, none, some}
 use lib.Dec.{eqb}
 use Rattle.model.specs.Table.{if_then_else_}
@@ -12,7 +13,9 @@ use Rattle.model.specs.declared.Call.{Call}
 use Rattle.lines.specs.declared.Line.{Line}
 use Rattle.lines.specs.declared.Line.the-variants as Line
 use Rattle.lines.specs.Shown.{answered, told, Counted}
+use Rattle.queue.specs.declared.Turn.{Turn}
 use Rattle.queue.specs.Meaning.{queueOf, Sound}
+use Rattle.queue.specs.Answers.{ansOf}
 use Rattle.calls.specs.declared.current.Current.{Current}
 use Rattle.calls.specs.declared.current.Answered.{Answered}
 
@@ -57,6 +60,13 @@ meaning k = if k .live then some (queueOf (k .queue)) else none
 
 pub record Kept (k : Current) : Type 0 where
   pub sound : Sound (k .queue)
+
+-- a turn's answer, and its queue as the current one
+pub record Took (t : Turn) (r : Answered) : Type 0 where
+  pub answer : told (r .answer) ≡ ansOf (t .answer)
+  pub counted : Counted (r .answer)
+  pub live : r .current .live ≡ true
+  pub queue : r .current .queue ≡ t .queue
 
 -- what a line does to it
 pub record Steps (k : Current) (l : Line) (r : Answered) : Type 0 where

@@ -25,6 +25,7 @@ pub struct Gone {
     pub n: usize,
 }
 
+// No number, one, or status's six.
 fn none() -> Field
     ensures { λ r. ⌜ Says r [] ⌝ }
 {
@@ -52,6 +53,7 @@ fn six(c: Counts) -> Field
     }
 }
 
+// The value that is handed back, if there is one.
 fn cargo(c: Cargo) -> Field
     ensures { λ r. ⌜ Says r (model.cargo (carried c)) ⌝ }
 {
@@ -61,7 +63,8 @@ fn cargo(c: Cargo) -> Field
     }
 }
 
-fn code(what: What) -> u32
+// The code of an answer.
+pub fn code(what: What) -> u32
     ensures { λ r. ⌜ r ≡ codeOf what ⌝ }
 {
     match what {
@@ -81,6 +84,7 @@ fn code(what: What) -> u32
     }
 }
 
+// The numbers of its field.
 fn numbers(what: What) -> Field
     ensures { λ r. ⌜ Says r (fieldOf what) ⌝ }
 {
@@ -101,6 +105,7 @@ fn numbers(what: What) -> Field
     }
 }
 
+// The token that goes back with it.
 fn retired(token: OptToken) -> Gone
     ensures { λ r. ⌜ LetGo r (tokenList token) ⌝ }
 {
@@ -113,6 +118,7 @@ fn retired(token: OptToken) -> Gone
     }
 }
 
+// The queue says which tokens are to be woken, in an array of 32: a count past its end would mean its end.
 fn within(n: usize) -> usize
     ensures { λ r. ⌜ r ≡ min n 32 ⌝ }
 {

@@ -2,11 +2,13 @@
 ghost use mathlib.Core.Path.{_≡_};
 ghost use mathlib.Core.Option.{none};
 ghost use Rattle.lines.specs.declared.Line.the-variants as Line;
-ghost use Rattle.calls.specs.Model.{Kept, Steps, meaning};
+ghost use Rattle.calls.specs.Model.{Kept, Took, Steps, meaning};
 use crate::answers::bare_answer;
+use crate::answers::code;
 use crate::answers::shown;
 use lines::Line;
 use queue::Queue;
+use queue::Turn;
 
 // Before the first good make there is no queue: `live` is false, and `queue` is the fixed record beside a refused make.
 pub struct Current {
@@ -19,7 +21,24 @@ pub struct Answered {
     pub current: Current,
 }
 
+// A turn's answer to be shown, and its queue, which is now the current one. A new queue and the queue after a call both come this way, in one
+// function of its own: the compiler then copies them as a whole, and not place by place as it makes a new one.
+fn took(turn: Turn) -> Answered
+    ensures { λ r. ⌜ Took turn r ⌝ }
+{
+    let said = turn.answer;
+    let next = turn.queue;
+    Answered {
+        answer: shown(said),
+        current: Current {
+            live: true,
+            queue: next,
+        },
+    }
+}
+
 impl Current {
+    // Before the first good make.
     pub fn nothing() -> Current
         ensures { λ r. ⌜ Kept r × (meaning r ≡ none) ⌝ }
     {
@@ -52,20 +71,13 @@ impl Current {
         ensures { λ r. ⌜ Steps self (Line.Make capacity) r ⌝ }
     {
         let turn = Queue::make(capacity);
-        let queue = turn.queue;
         let said = turn.answer;
-        let answer = shown(said);
-        if answer.code == 0 {
-            return Answered {
-                answer: answer,
-                current: Current {
-                    live: true,
-                    queue: queue,
-                },
-            };
+        let what = said.what;
+        if code(what) == 0 {
+            return took(turn);
         }
         Answered {
-            answer: answer,
+            answer: shown(said),
             current: self,
         }
     }
@@ -77,16 +89,7 @@ impl Current {
     {
         if self.live {
             let queue = self.queue;
-            let turn = queue.step(call);
-            let next = turn.queue;
-            let said = turn.answer;
-            return Answered {
-                answer: shown(said),
-                current: Current {
-                    live: true,
-                    queue: next,
-                },
-            };
+            return took(queue.step(call));
         }
         Answered {
             answer: bare_answer(21),

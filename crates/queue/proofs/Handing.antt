@@ -1,12 +1,11 @@
 -- The exits of the handles' calls, clone_s, clone_r, drop_s, drop_r, and of status. Assumes nothing.
 use Prim.Native.Nat.{ℕ, _+_, _-_, _<_, _≤_}
 use mathlib.Core.Path.{_≡_, refl, sym, ap, ap₂, _∙_, subst}
-use mathlib.Core.Bool.{Bool, true, false, not, _&&_}
-use mathlib.Core.List.{List, [], _∷_, _++_}
-use mathlib.Core.Option.{Option, none, some}
+use mathlib.Core.Bool.{Bool, true, false, not}
+use mathlib.Core.List.{List, [], _∷_}
 use native.Mathlib.Omega.{arith}
 use borrow.Author.Tests.{lt-ltb, le-ltb}
-use lib.Dec.{eqb, ltb}
+use lib.Dec.{ltb}
 use lib.ListN.{length}
 use mir.Val.{Fits}
 use mir.Syntax.{w32}
@@ -36,7 +35,7 @@ use Rattle.queue.specs.declared.What.the-variants.{Done, Discarded, Give
 use Rattle.queue.specs.declared.Answer.{Answer}
 use Rattle.queue.specs.declared.Turn.{Turn}
 use Rattle.queue.specs.Meaning.{queueOf, Shaped, Sound}
-use Rattle.queue.specs.Answers.{codeOf, fieldOf}
+use Rattle.queue.specs.Answers.{fieldOf}
 use Rattle.queue.specs.Promise.{Turned}
 use Rattle.queue.specs.Steps.{Says, Silences, silenced, Discards, discarded, Counted}
 use Rattle.queue.proofs.Settled.{stays, moves, does, withValues, withSenders, withReceivers, withOuts, withIns}

@@ -2,9 +2,9 @@
 -- Assumes nothing.
 use Prim.Native.Nat.{ℕ}
 use mathlib.Core.Path.{_≡_, refl, sym, ap, ap₂, _∙_, subst}
-use mathlib.Core.List.{List, [], _∷_, map}
+use mathlib.Core.List.{List, _∷_, map}
 use Rattle.model.specs.declared.Call.{Call}
-use Rattle.model.specs.Calls.{make, step, answers, after}
+use Rattle.model.specs.Calls.{answers, after}
 use Rattle.model.specs.Queue as model
 use Rattle.model.specs.Promises.{Demand3}
 use Rattle.model.proofs.Theorems.{demand3}
@@ -12,7 +12,7 @@ use Rattle.queue.specs.declared.Queue.{Queue}
 use Rattle.queue.specs.declared.Answer.{Answer}
 use Rattle.queue.specs.Meaning.{queueOf, Sound}
 use Rattle.queue.specs.Answers.{ansOf}
-use Rattle.queue.specs.Promise.{Turned, Made}
+use Rattle.queue.specs.Promise.{Made}
 use Rattle.queue.specs.Histories.{Run, done, then, Kept, Always, last, more}
 
 -- demand 3 holds of every sound queue, since it came from make and calls

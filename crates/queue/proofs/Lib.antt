@@ -5,6 +5,3 @@ pub mod Handing
 pub mod Making
 pub mod Histories
 pub mod One
-pub mod Forms
-pub mod Lent
-pub mod Thin

@@ -1,19 +1,18 @@
 -- The exits of make. Assumes nothing.
-use Prim.Native.Nat.{ℕ, _+_, _-_, _<_, _≤_}
-use mathlib.Core.Path.{_≡_, refl, sym, ap, ap₂, _∙_, subst}
-use mathlib.Core.Bool.{Bool, true, false, not, _&&_}
-use mathlib.Core.List.{List, [], _∷_, _++_}
-use mathlib.Core.Option.{Option, none, some}
+use Prim.Native.Nat.{ℕ, _-_, _<_, _≤_}
+use mathlib.Core.Path.{_≡_, refl, sym, ap, ap₂, _∙_}
+use mathlib.Core.Bool.{Bool, true, false, _&&_}
+use mathlib.Core.List.{List, []}
+use mathlib.Core.Option.{Option, none}
 use native.Mathlib.Omega.{arith}
 use borrow.Author.Tests.{le-leb, lt-leb}
 use lib.Dec.{leb}
 use Rattle.ring.specs.declared.Ring.{Ring}
 use Rattle.ring.specs.Values as ring
 use Rattle.tables.specs.declared.Handles.{Handles}
-use Rattle.tables.specs.declared.Number.{Number}
 use Rattle.tables.specs.declared.Permits.{Permits}
 use Rattle.tables.specs.declared.Cloned.{Cloned}
-use Rattle.tables.specs.Meaning.{handlesOf, permitsOf, HandlesSound, numbered}
+use Rattle.tables.specs.Meaning.{handlesOf, HandlesSound}
 use Rattle.tables.specs.Calls.{putIf, NoHandles, NoPermits, Clones}
 use Rattle.side.specs.declared.Side.{Side}
 use Rattle.side.specs.Meaning.{sideOf}
@@ -27,7 +26,7 @@ use Rattle.queue.specs.declared.What.{What}
 use Rattle.queue.specs.declared.What.the-variants.{Done, BadCapacity}
 use Rattle.queue.specs.declared.Answer.{Answer}
 use Rattle.queue.specs.Meaning.{queueOf, Shaped, Sound}
-use Rattle.queue.specs.Answers.{codeOf, fieldOf, ansOf}
+use Rattle.queue.specs.Answers.{codeOf, fieldOf}
 use Rattle.queue.specs.Promise.{Made}
 use Rattle.queue.specs.Steps.{Says, Blank}
 

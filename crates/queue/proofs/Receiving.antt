@@ -1,14 +1,12 @@
 -- The exits of what receivers do: recv, try_recv, poll_in, cancel_in. Assumes nothing.
-use Prim.Native.Nat.{ℕ, _+_, _-_, _<_, _≤_}
-use mathlib.Core.Path.{_≡_, refl, sym, ap, ap₂, _∙_, subst}
+use Prim.Native.Nat.{ℕ, _-_}
+use mathlib.Core.Path.{_≡_, refl, sym, ap, ap₂, _∙_}
 use mathlib.Core.Bool.{Bool, true, false, not, _&&_}
-use mathlib.Core.List.{List, [], _∷_, _++_}
-use mathlib.Core.Option.{Option, none, some}
+use mathlib.Core.List.{List, [], _∷_}
 use native.Mathlib.Omega.{arith}
 use borrow.Author.Tests.{eq-eqb, ne-eqb}
 use lib.Dec.{eqb, ltb}
 use lib.ListN.{length}
-use Rattle.ring.specs.declared.Ring.{Ring}
 use Rattle.ring.specs.declared.Front.the-variants.{Value as FValue, Nothing as FNothing}
 use Rattle.ring.specs.declared.Popped.{Popped}
 use Rattle.ring.specs.Values as ring
@@ -40,7 +38,7 @@ use Rattle.queue.specs.declared.Turn.{Turn}
 use Rattle.queue.specs.Meaning.{queueOf, Shaped, Sound}
 use Rattle.queue.specs.Promise.{Turned}
 use Rattle.queue.specs.Steps.{Says, Notifies, Releases, releasing, passes}
-use Rattle.queue.proofs.Settled.{stays, moves, does, withValues, withIns, shaped-values, shaped-ins, dead, alive, none-left, some-left, free-small}
+use Rattle.queue.proofs.Settled.{stays, moves, does, withValues, withIns, shaped-values, shaped-ins, dead, alive, none-left, some-left}
 
 -- ---- recv
 module _ (q : Queue) (snd : Sound q) (s : ℕ) (b : Bool) (e : b ≡ isLive (lookup (handlesOf (q .receivers)) s)) where

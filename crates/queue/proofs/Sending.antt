@@ -1,6 +1,6 @@
 -- The exits of what senders do: moves, try_send, try_res, reserve and send, poll_out, cancel_out, permit_send, permit_drop. Assumes nothing.
 use Prim.Native.Nat.{ℕ, _+_, _-_, _<_, _≤_}
-use mathlib.Core.Path.{_≡_, refl, sym, ap, ap₂, _∙_, subst}
+use mathlib.Core.Path.{_≡_, refl, sym, ap, ap₂, _∙_}
 use mathlib.Core.Bool.{Bool, true, false, not, _&&_}
 use mathlib.Core.List.{List, [], _∷_, _++_}
 use mathlib.Core.Option.{Option, none, some}
@@ -37,8 +37,7 @@ use Rattle.side.specs.Calls.{Open, Sees, Opens, openedIf, Ends, Pends, CallsOne
 use Rattle.model.specs.Table.{Table, lookup, lowest, put, clear, live, of, size, if_then_else_}
 use Rattle.model.specs.Side as side
 use Rattle.model.specs.Queue as model
-use Rattle.model.specs.declared.Call.{Call}
-use Rattle.model.specs.declared.Call.the-variants.{TrySend, TryRes, Reserve, Send, PollOut, CancelOut, PermitSend, PermitDrop}
+use Rattle.model.specs.declared.Call.the-variants.{TrySend, TryRes, PollOut, CancelOut, PermitSend, PermitDrop}
 use Rattle.model.specs.Calls.{step, openOut}
 use Rattle.model.proofs.TableLaws.{is-live, lowest-none}
 use Rattle.model.proofs.TableLaws.{of-le}
@@ -53,9 +52,9 @@ use Rattle.queue.specs.declared.Turn.{Turn}
 use Rattle.queue.specs.Meaning.{queueOf, Shaped, Sound}
 use Rattle.queue.specs.Answers.{codeOf, fieldOf, resultOf}
 use Rattle.queue.specs.Promise.{Turned}
-use Rattle.queue.specs.Steps.{Says, Does, Notifies, Pushes, Releases, releasing, Completes, opening, ready}
+use Rattle.queue.specs.Steps.{Says, Notifies, Pushes, Releases, releasing, Completes, opening, ready}
 use Rattle.queue.proofs.Settled.{kept, stays, moves, does, withValues, withFree, withPermits, withOuts, withIns}
-use Rattle.queue.proofs.Settled.{shaped-values, shaped-free, shaped-permits, shaped-outs, shaped-ins, dead, alive, none-left, some-left, free-small}
+use Rattle.queue.proofs.Settled.{shaped-values, shaped-free, shaped-permits, shaped-outs, shaped-ins, dead, alive, none-left, some-left}
 
 -- ---- wakes_of, say, plain
 pub wakes-one : (woken : Woken) (n t : ℕ) → woken ≡ OneOp n t → t ∷ [] ≡ wokenTokens woken

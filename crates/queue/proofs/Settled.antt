@@ -1,22 +1,24 @@
 -- EVERY EXIT OF A CALL: from an answer and a queue that are the definition's, the promise. Assumes nothing.
-use Prim.Native.Nat.{ℕ, _+_, _-_, _<_, _≤_}
-use mathlib.Core.Path.{_≡_, refl, sym, ap, ap₂, _∙_, subst}
-use mathlib.Core.Bool.{Bool, true, false, not, _&&_}
+use Prim.Native.Nat.{ℕ, _+_, _-_, _≤_}
+use mathlib.Core.Path.{_≡_, refl, sym, ap, _∙_, subst}
+use mathlib.Core.Bool.{Bool, true, false, not}
 use mathlib.Core.List.{List, [], _∷_, _++_}
 use mathlib.Core.Option.{Option, none, some}
 use native.Mathlib.Omega.{arith}
 use borrow.Author.Tests.{eq-eqb, ne-eqb, ltb-true, not-true, not-false}
 use lib.Dec.{eqb, ltb}
-use lib.ListN.{length}
+use mir.Val.{Fits}
+use mir.Syntax.{w8}
 use Rattle.ring.specs.declared.Ring.{Ring}
 use Rattle.ring.specs.Values as ring
 use Rattle.tables.specs.declared.Handles.{Handles}
 use Rattle.tables.specs.declared.Permits.{Permits}
-use Rattle.tables.specs.Meaning.{handlesOf, permitsOf, isLive, HandlesSound, PermitsSound}
+use Rattle.tables.specs.Meaning.{handlesOf, isLive, HandlesSound, PermitsSound}
+use Rattle.tables.proofs.Laws.{handle-small}
 use Rattle.side.specs.declared.Side.{Side}
 use Rattle.side.specs.declared.Entry.{Entry}
 use Rattle.side.specs.declared.View.the-variants.{Found}
-use Rattle.side.specs.Meaning.{sideOf, deedOf}
+use Rattle.side.specs.Meaning.{deedOf}
 use Rattle.side.specs.Sound as side
 use Rattle.side.specs.Calls.{Open, Sees}
 use Rattle.model.specs.Table.{Table, lookup, live}
@@ -29,7 +31,7 @@ use Rattle.queue.specs.declared.Queue.{Queue}
 use Rattle.queue.specs.declared.What.{What}
 use Rattle.queue.specs.declared.Answer.{Answer}
 use Rattle.queue.specs.declared.Turn.{Turn}
-use Rattle.queue.specs.Meaning.{queueOf, Shaped, Came, Sound}
+use Rattle.queue.specs.Meaning.{queueOf, Shaped, Sound}
 use Rattle.queue.specs.Answers.{codeOf, fieldOf, resultOf}
 use Rattle.queue.specs.Promise.{Turned}
 use Rattle.queue.specs.Steps.{Says, Does}
@@ -140,6 +142,10 @@ module _ {A : Type 0} (o : Option A) (b : Bool) (e : b ≡ isLive o) where
       by : (x : Option A) → true ≡ isLive x → (a : A) × (x ≡ some a)
       by none g = let z : _≡_ {A = ℕ} 0 1 = cc in absurd (omega arith)
       by (some a) g = (a, refl)
+
+-- a live handle's number fits the byte in which a record keeps its owner
+pub owner-fits : (h : Handles) (n : ℕ) (b : Bool) → HandlesSound h → b ≡ isLive (lookup (handlesOf h) n) → not b ≡ false → Fits w8 n
+owner-fits h n b s e d = let l = alive (lookup (handlesOf h) n) b e d in record { fits = omega (arith, handle-small h s n (l .0) (l .1)) }
 
 -- what a count and a test tell
 module _ {A : Type 0} (t : Table A) (n : ℕ) (e : n ≡ live t) where

@@ -48,7 +48,8 @@ impl Queue {
             };
         }
         let ins = self.ins;
-        let opened = ins.open(r, Cargo::Nothing);
+        let owner = r as u8;
+        let opened = ins.open(owner, Cargo::Nothing);
         let number = opened.number;
         let side = opened.side;
         match number {

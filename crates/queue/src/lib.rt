@@ -1,5 +1,5 @@
-// The bounded queue, after src/mpmc/queue.rs and src/mpmc/bounded.rs of asyncband 0.7.4: its record, `make`, a method for each call, one
-// dispatcher over the calls, and the entry to which a station lends its queue.
+// The bounded queue, after src/mpmc/queue.rs and src/mpmc/bounded.rs of asyncband 0.7.4: its record, `make`, a method for each call, and one
+// dispatcher over the calls.
 // The meaning of a queue is the definition's (`queueOf`, specs/Meaning.antt), the promise of every call is `Turned` and that of make `Made`
 // (specs/Promise.antt); answers have document 01's numbers by specs/Answers.antt.
 mod handles;
@@ -150,30 +150,5 @@ impl Queue {
             Call::DropR(r) => self.drop_r(r),
             Call::Status => self.status(),
         }
-    }
-}
-
-// The entry for a station that keeps its queue in a record and lends it for one call: the record afterwards holds the next queue.
-pub fn serve(q: &mut Queue, c: Call) -> Answer
-    requires { ⌜ Sound (now q) ⌝ }
-    ensures { λ r. ⌜ Turned (now (q .entry)) c r (now (q .exit)) ⌝ }
-{
-    let taken = *q;
-    let turn = taken.step(c);
-    let next = turn.queue;
-    *q = next;
-    turn.answer
-}
-
-// The entry as a caller with plain parameters uses it: what is lent here is a local.
-pub fn served(q: Queue, c: Call) -> Turn
-    requires { ⌜ Sound q ⌝ }
-    ensures { λ r. ⌜ Turned q c (r .answer) (r .queue) ⌝ }
-{
-    let mut held = q;
-    let answer = serve(&mut held, c);
-    Turn {
-        answer: answer,
-        queue: held,
     }
 }

@@ -37,7 +37,7 @@ fn is_ready(stage: Stage, free: u32) -> bool
 
 impl Queue {
     // The first receiver in line, if any, is notified: 0.
-    pub fn notify(mut self) -> Turn
+    pub(crate) fn notify(mut self) -> Turn
         requires { ⌜ Shaped self ⌝ }
         ensures { λ r. ⌜ Notifies self r ⌝ }
     {
@@ -73,7 +73,7 @@ impl Queue {
 
     // A slot comes back: to the first sender in line, else to the free room; after the last receiver to nobody. The answer is `what`, with the
     // token that the call retires.
-    pub fn release(mut self, what: What, retired: OptToken) -> Turn
+    pub(crate) fn release(mut self, what: What, retired: OptToken) -> Turn
         requires { ⌜ Shaped self ⌝ }
         requires { ⌜ self .free ≤ 64 ⌝ }
         ensures { λ r. ⌜ Releases what retired self r ⌝ }
@@ -141,7 +141,7 @@ impl Queue {
     }
 
     // An outgoing operation that has its slot in hand and is gone from its side: a reserve ends with a permit of its sender, a send with a push.
-    fn complete(mut self, cargo: Cargo, owner: u32) -> Turn
+    fn complete(mut self, cargo: Cargo, owner: u8) -> Turn
         requires { ⌜ Shaped self ⌝ }
         requires { ⌜ length (queueOf self .values) < 64 ⌝ }
         ensures { λ r. ⌜ Completes cargo owner self r ⌝ }
@@ -204,7 +204,8 @@ impl Queue {
             };
         }
         self.free = free - 1;
-        self.complete(Cargo::Nothing, s)
+        let owner = s as u8;
+        self.complete(Cargo::Nothing, owner)
     }
 
     // A reserve or a send is opened, by what it carries.
@@ -221,7 +222,8 @@ impl Queue {
             };
         }
         let outs = self.outs;
-        let opened = outs.open(s, cargo);
+        let owner = s as u8;
+        let opened = outs.open(owner, cargo);
         let number = opened.number;
         let side = opened.side;
         match number {

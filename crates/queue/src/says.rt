@@ -30,7 +30,7 @@ fn wakes_of(woken: Woken) -> Wakes
     }
 }
 
-pub fn say(what: What, woken: Woken, retired: OptToken) -> Answer
+pub(crate) fn say(what: What, woken: Woken, retired: OptToken) -> Answer
     ensures { λ r. ⌜ Says what (wokenTokens woken) (tokenList retired) r ⌝ }
 {
     let wakes = wakes_of(woken);
@@ -42,7 +42,7 @@ pub fn say(what: What, woken: Woken, retired: OptToken) -> Answer
 }
 
 // An answer that wakes nobody and retires nothing.
-pub fn plain(what: What) -> Answer
+pub(crate) fn plain(what: What) -> Answer
     ensures { λ r. ⌜ Says what [] [] r ⌝ }
 {
     say(what, Woken::Nobody, OptToken::NoToken)

@@ -12,7 +12,7 @@ use Rattle.waitlist.proofs.Laws.{along-length, line-length}
 use Rattle.wakes.specs.declared.Wakes.{Wakes}
 use Rattle.wakes.specs.Calls.{WakesAll}
 use Rattle.tables.proofs.Counts as table
-use Rattle.model.specs.Table.{of, sum, if_then_else_}
+use Rattle.model.specs.Table.{of, sum, same, if_then_else_}
 use Rattle.model.specs.Side as model
 use Rattle.model.proofs.TableLaws.{same-yes, same-no}
 use Rattle.side.specs.declared.Side.{Side}
@@ -27,12 +27,12 @@ use Rattle.side.specs.Calls.{Sees}
 
 -- ---- one operation
 module _ (a : Asked) (e : Entry) where
-  module _ (h : ℕ) (q : a ≡ Owned h) where
-    pub counted-yes : h ≡ e .owner → 1 ≡ counts a (deedOf e)
-    counted-yes g = sym (ap (λ (z : Asked). counts z (deedOf e)) q ∙ (ap (λ (k : ℕ). counts (Owned h) (record { owner = k; job = deedOf e .job; stage = deedOf e .stage })) (sym g) ∙ same-yes h))
+  module _ (h : ℕ) (q : a ≡ Owned h) (own : ℕ) (o : own ≡ e .owner) where
+    pub counted-yes : h ≡ own → 1 ≡ counts a (deedOf e)
+    counted-yes g = sym (ap (λ (z : Asked). counts z (deedOf e)) q ∙ (ap (λ (k : ℕ). same h k) (sym (g ∙ o)) ∙ same-yes h))
 
-    pub counted-no : (h ≡ e .owner → ⊥) → 0 ≡ counts a (deedOf e)
-    counted-no g = sym (ap (λ (z : Asked). counts z (deedOf e)) q ∙ same-no h (e .owner) g)
+    pub counted-no : (h ≡ own → ⊥) → 0 ≡ counts a (deedOf e)
+    counted-no g = sym (ap (λ (z : Asked). counts z (deedOf e)) q ∙ same-no h (e .owner) (λ z. g (z ∙ sym o)))
 
   pub counted-called : (x : ℕ) → a ≡ Called → x ≡ model.isCalled (stageOf (e .stage)) → x ≡ counts a (deedOf e)
   counted-called x q g = g ∙ sym (ap (λ (z : Asked). counts z (deedOf e)) q)

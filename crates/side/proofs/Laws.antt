@@ -1,8 +1,7 @@
 -- THE LAWS OF A TABLE OF OPERATIONS BESIDE A WAIT LIST. Every move but the last touches one operation n and at most one node i: `Slot` says
 -- once what follows of that. Assumes nothing.
-use Prim.Native.Nat.{ℕ, zero, suc, _<_, _≤_}
+use Prim.Native.Nat.{ℕ, _<_}
 use mathlib.Core.Path.{_≡_, refl, sym, ap, _∙_, subst}
-use mathlib.Core.Logic.{_⊎_, inl, inr, ⊎-elim}
 use mathlib.Core.List.{List, [], _∷_, _++_, map, List·Memᴰ}
 use mathlib.Core.Option.{Option, none, some}
 use native.Mathlib.Decide.{ℕ-discrete, decLt}
@@ -20,8 +19,7 @@ use Rattle.waitlist.specs.View.{waiterId, held, line}
 use Rattle.waitlist.specs.Sound as wait
 use Rattle.waitlist.specs.Owners.{Owned}
 use Rattle.waitlist.proofs.Segs.{same-id, no-id}
-use Rattle.live.specs.Table.{firstFree}
-use Rattle.model.specs.Table.{Table, lookup, oneMore, lowest}
+use Rattle.model.specs.Table.{lookup, oneMore, lowest}
 use Rattle.model.specs.Side as model
 use Rattle.side.specs.declared.Mark.{Mark}
 use Rattle.side.specs.declared.Mark.the-variants.{Idle, At, Void}

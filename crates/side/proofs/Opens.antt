@@ -6,23 +6,23 @@ use mathlib.Core.List.{List, [], _∷_, map, List·Memᴰ, List·Memᴰ·not-nil
 use mathlib.Core.Option.{Option, none, some}
 use native.Mathlib.Omega.{arith}
 use borrow.Author.Tests.{eq-eqb, ne-eqb}
-use lib.ListN.{length, getD, set, replicate, length-set, getD-replicate, List·getD-eq-default}
+use lib.ListN.{getD, set, replicate, length-set}
 use Rattle.arena.specs.declared.WaiterId.{WaiterId}
-use Rattle.arena.specs.declared.OptWaiter.the-variants.{Nobody, Id}
+use Rattle.arena.specs.declared.OptWaiter.the-variants.{Nobody}
 use Rattle.arena.specs.declared.Waiter.{Waiter}
 use Rattle.arena.specs.declared.Waiter.the-variants.{Waiting, Called}
 use Rattle.waitlist.specs.declared.WaitList.{WaitList}
 use Rattle.waitlist.specs.declared.Held.{Held}
 use Rattle.waitlist.specs.declared.Held.the-variants.{Empty, Holding}
-use Rattle.waitlist.specs.View.{waiterId, held, line, along, opOf, isNil}
+use Rattle.waitlist.specs.View.{held, line, along, opOf, isNil}
 use Rattle.waitlist.specs.Calls as wait
-use Rattle.waitlist.proofs.Segs.{same-id, no-id}
+use Rattle.waitlist.proofs.Segs.{no-id}
 use Rattle.live.specs.declared.Live.{Live}
 use Rattle.live.specs.Bits.{liveOf, noneLive, lowestClear}
 use Rattle.live.specs.Table.{Within, held as table, firstFree}
 use Rattle.live.proofs.Laws.{live-below, length-live, within-none, within-with, lowest-clear}
-use Rattle.live.proofs.Tables.{held-live, held-free, held-open, held-none, length-held, firstFree-held}
-use Rattle.model.specs.Table.{Table, blank, lookup, put, lowest, if_then_else_}
+use Rattle.live.proofs.Tables.{held-live, held-free, held-open, held-none, firstFree-held}
+use Rattle.model.specs.Table.{Table, blank}
 use Rattle.model.specs.Side as model
 use Rattle.side.specs.declared.Cargo.{Cargo}
 use Rattle.side.specs.declared.Mark.{Mark}
@@ -34,9 +34,9 @@ use Rattle.side.specs.declared.Stage.the-variants.{Waiting as SWaiting, 
 use Rattle.side.specs.declared.View.the-variants.{Missing, Found}
 use Rattle.tables.specs.declared.Number.the-variants.{NoRoom, Given}
 use Rattle.side.specs.declared.OptToken.the-variants.{NoToken, Token}
-use Rattle.side.specs.declared.Woken.the-variants.{Nobody as NoOne, Op as OneOp}
-use Rattle.side.specs.Meaning.{freshOp, Deed, carried, stageIn, stageBy, deedBy, through, opsOf, tableOf, sideOf, stageOf, tokenList, voidMark, voided}
-use Rattle.side.specs.Sound.{nodeOf, nodeIn, nodeAt, Ties, Sound}
+use Rattle.side.specs.declared.Woken.the-variants.{Op as OneOp}
+use Rattle.side.specs.Meaning.{freshOp, Deed, stageIn, stageBy, deedBy, through, opsOf, tableOf, sideOf, stageOf, tokenList, voidMark, voided}
+use Rattle.side.specs.Sound.{nodeIn, nodeAt, Ties, Sound}
 use Rattle.side.specs.Calls.{Fresh, Sees, Opens, wokenOf}
 use Rattle.tables.proofs.Laws.{map-set, lowest-is, lowest-not}
 use Rattle.side.proofs.Laws.{not-empty, look, ties-set, lowest-through}

@@ -1,23 +1,21 @@
 -- What each way through the functions shows: one lemma for an exit. Assumes nothing.
-use Prim.Native.Nat.{ℕ, _<_, _≤_}
+use Prim.Native.Nat.{ℕ, _<_}
 use mathlib.Core.Path.{_≡_, refl, sym, ap, _∙_, subst}
 use mathlib.Core.Bool.{Bool, true, false}
 use mathlib.Core.Logic.{⊎-elim}
 use mathlib.Core.List.{List, [], _∷_, _++_, map, List·Memᴰ, List·Memᴰ·head, Memᴰ·append-left, Memᴰ·append-right, List·Memᴰ·append-cases, List·Memᴰ·eq-of-singleton}
 use mathlib.Core.Option.{Option, none, some}
-use native.Mathlib.Decide.{ℕ-discrete}
 use native.Mathlib.Omega.{arith}
 use lib.ListN.{length, getD, set, length-set}
 use lib.Seq.{getD-set-same, getD-set-other, set-getD, set-set}
 use mir.Val.{Fits}
 use mir.Syntax.{w8}
 use Rattle.arena.specs.declared.WaiterId.{WaiterId}
-use Rattle.arena.specs.declared.OptWaiter.{OptWaiter}
 use Rattle.arena.specs.declared.OptWaiter.the-variants.{Nobody, Id}
 use Rattle.arena.specs.declared.Waiter.{Waiter}
-use Rattle.arena.specs.declared.Waiter.the-variants.{Waiting, Called}
+use Rattle.arena.specs.declared.Waiter.the-variants.{Waiting}
 use Rattle.arena.specs.Lists as lists
-use Rattle.arena.specs.Lists.{NotIn, NoDup}
+use Rattle.arena.specs.Lists.{NotIn}
 use Rattle.waitlist.specs.declared.WaitList.{WaitList}
 use Rattle.waitlist.specs.declared.Held.{Held}
 use Rattle.waitlist.specs.declared.Held.the-variants.{Empty, Holding}
@@ -25,22 +23,19 @@ use Rattle.waitlist.specs.declared.Pushed.{Pushed}
 use Rattle.waitlist.specs.declared.Dropped.{Dropped}
 use Rattle.waitlist.specs.View.{waiterId, held, renew, line, along, opOf, count}
 use Rattle.waitlist.specs.Sound as wait
-use Rattle.waitlist.specs.Owners.{Owned}
 use Rattle.waitlist.specs.Calls.{Pushes, Unlinks, Refreshes, Gone, Drops}
 use Rattle.waitlist.proofs.Segs.{same-id, no-id}
 use Rattle.waitlist.proofs.Room.{room}
 use Rattle.waitlist.proofs.Laws.{line-once, along-pushed, along-unlinked, along-gone, along-refreshed}
 use Rattle.live.specs.declared.Live.{Live}
-use Rattle.live.specs.Bits.{liveOf, lowestClear}
+use Rattle.live.specs.Bits.{liveOf}
 use Rattle.live.specs.Table.{Within, held as table}
-use Rattle.live.proofs.Laws.{live-below, length-live, within-with, within-without, lowest-clear}
-use Rattle.live.proofs.Tables.{held-live, held-free, held-write, held-open, held-close, length-held}
-use Rattle.model.specs.Table.{Table, lookup, put, lowest}
+use Rattle.live.proofs.Laws.{live-below, within-without}
+use Rattle.live.proofs.Tables.{held-live, held-free, held-write, held-close}
+use Rattle.model.specs.Table.{Table, lookup, put}
 use Rattle.model.specs.Side as model
 use Rattle.model.specs.Queue.{Job}
 use Rattle.model.proofs.TableLaws.{change-live, has-live, lookup-put}
-use Rattle.side.specs.declared.Cargo.{Cargo}
-use Rattle.side.specs.declared.Cargo.the-variants.{Nothing}
 use Rattle.side.specs.declared.Mark.{Mark}
 use Rattle.side.specs.declared.Mark.the-variants.{Idle, At, Void}
 use Rattle.side.specs.declared.Op.{Op}
@@ -48,14 +43,14 @@ use Rattle.side.specs.declared.Side.{Side}
 use Rattle.side.specs.declared.Stage.{Stage}
 use Rattle.side.specs.declared.OptToken.{OptToken}
 use Rattle.side.specs.declared.OptToken.the-variants.{NoToken, Token}
-use Rattle.side.specs.Meaning.{freshOp, Deed, carried, stageIn, stageBy, deedBy, through, opsOf, tableOf, sideOf, stageOf, tokenList}
+use Rattle.side.specs.Meaning.{freshOp, Deed, stageIn, stageBy, deedBy, through, opsOf, tableOf, sideOf, stageOf, tokenList}
 use Rattle.side.specs.Sound.{nodeOf, nodeIn, nodeAt, Ties, Sound}
 use Rattle.side.specs.Calls.{Open, Alone, Leaves, Refreshed, Detached, Detaches, Joins, Ends, Pends}
 use Rattle.side.proofs.Lists.{mem-without, without-mem, without-gone, without-none, without-map}
 use Rattle.side.proofs.Laws.{mark-at, node-waits, kept-some, kept-none}
 use Rattle.tables.proofs.Laws.{map-set}
 use Rattle.side.proofs.Laws.{ties-set}
-use Rattle.side.proofs.Laws.{same-op, not-empty, look, with-node, with-deed, deed-kept, Only, Link, tied, loose, Lined, ops-slot, ties-slot}
+use Rattle.side.proofs.Laws.{same-op, not-empty, look, Only, tied, loose, Lined, ops-slot, ties-slot}
 
 abbrev pub stored : Side → ℕ → Op
 stored s n = getD (s .ops) n freshOp

@@ -1,7 +1,7 @@
 -- WHAT EACH METHOD OF A SIDE DOES, by the model's move of that name. Assumes nothing.
 use Prim.Native.Nat.{ℕ}
 use mathlib.Core.Path.{_≡_}
-use mathlib.Core.List.{List, [], _∷_, _++_, map}
+use mathlib.Core.List.{[], _∷_, _++_, map}
 use mathlib.Core.Option.{Option, none, some}
 use lib.ListN.{take}
 use Rattle.arena.specs.declared.OptWaiter.the-variants.{Nobody, Id}
@@ -13,7 +13,7 @@ use Rattle.waitlist.specs.declared.Held.the-variants.{Empty, Holding}
 use Rattle.waitlist.specs.View.{waiterId, held, line, opOf, along}
 use Rattle.waitlist.specs.Sound as wait
 use Rattle.waitlist.specs.Calls.{Refreshes}
-use Rattle.model.specs.Table.{Table, blank, lookup, put, lowest}
+use Rattle.model.specs.Table.{blank, lookup, put, lowest}
 use Rattle.model.specs.Side as model
 use Rattle.model.specs.Queue.{Job}
 use Rattle.tables.specs.Meaning.{numbered}

@@ -2,7 +2,6 @@
 use Prim.Native.Nat.{ℕ}
 use mathlib.Core.List.{List, [], _∷_, map}
 use mathlib.Core.Option.{Option, none, some}
-use Rattle.arena.specs.declared.WaiterId.{WaiterId}
 use Rattle.arena.specs.declared.Waiter.the-variants.{Waiting, Called}
 use Rattle.waitlist.specs.declared.WaitList.{WaitList}
 use Rattle.waitlist.specs.declared.Held.{Held}

@@ -6,12 +6,13 @@ use arena::Waiter;
 use arena::WaiterId;
 use live::Live;
 use tables::Number;
+use tables::wide;
 use waitlist::Held;
 use waitlist::WaitList;
 use wakes::Wakes;
 ghost use mathlib.Core.Path.{_≡_};
 ghost use mathlib.Core.List.{map};
-ghost use Prim.Native.Nat.{ℕ, _<_};
+ghost use Prim.Native.Nat.{_<_};
 ghost use lib.Dec.{eqb};
 ghost use lib.ListN.{length};
 ghost use Rattle.waitlist.specs.Sound as wait;
@@ -36,7 +37,7 @@ pub enum Mark {
 }
 
 pub struct Op {
-    pub owner: u32,
+    pub owner: u8,
     pub cargo: Cargo,
     pub mark: Mark,
 }
@@ -56,7 +57,7 @@ pub enum Stage {
 }
 
 pub struct Entry {
-    pub owner: u32,
+    pub owner: u8,
     pub cargo: Cargo,
     pub stage: Stage,
 }
@@ -171,8 +172,9 @@ impl Entry {
         ensures { λ r. ⌜ r ≡ counts asked (deedOf self) ⌝ }
     {
         let stage = self.stage;
+        let own = wide(self.owner);
         match asked {
-            Asked::Owned(owner) => if owner == self.owner { 1 } else { 0 },
+            Asked::Owned(owner) => if owner == own { 1 } else { 0 },
             Asked::Called => stage.called(),
             Asked::Polled => stage.polled(),
         }
@@ -330,7 +332,7 @@ impl Side {
     }
 
     // An operation is opened at the lowest free number, if there is one.
-    pub fn open(self, owner: u32, cargo: Cargo) -> Opened
+    pub fn open(self, owner: u8, cargo: Cargo) -> Opened
         requires { ⌜ Sound self ⌝ }
         ensures { λ r. ⌜ Opens self owner cargo r ⌝ }
     {

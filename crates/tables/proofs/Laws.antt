@@ -3,17 +3,18 @@ use Prim.Native.Nat.{ℕ, zero, suc, _<_, _≤_}
 use mathlib.Core.Path.{_≡_, refl, sym, ap, ap₂, _∙_, subst}
 use mathlib.Core.Bool.{Bool, true, false}
 use mathlib.Core.List.{List, [], _∷_, map}
-use mathlib.Core.Option.{Option, none, some}
+use mathlib.Core.Option.{none, some}
+use native.Mathlib.Nat.{lt-of-not-le}
 use native.Mathlib.Omega.{arith}
 use lib.Dec.{eqb}
-use lib.ListN.{length, getD, set, replicate, length-set, length-map, length-replicate, List·getD-map}
+use lib.ListN.{length, getD, set, replicate, length-set, length-map, List·getD-map, List·getD-eq-default}
 use lib.Seq.{set-getD}
 use Rattle.live.specs.declared.Live.{Live}
 use Rattle.live.specs.Bits.{liveOf, noneLive, lowestClear, countLive}
 use Rattle.live.specs.Table.{Within, held, firstFree, countHeld}
 use Rattle.live.proofs.Laws.{live-below, length-live, within-none, within-with, within-without}
 use Rattle.live.proofs.Tables.{held-live, held-free, held-open, held-close, held-none, length-held, firstFree-held, countHeld-held}
-use Rattle.model.specs.Table.{Table, lookup, put, lowest, oneMore, of, sum, live, if_then_else_}
+use Rattle.model.specs.Table.{Table, lookup, lowest, oneMore, of, live, if_then_else_}
 use Rattle.model.proofs.TableLaws.{same-yes, same-no}
 use Rattle.model.specs.Queue.{Mark}
 use Rattle.tables.specs.declared.Handles.{Handles}
@@ -43,6 +44,10 @@ module _ {A : Type 0} where
   count-is (some a ∷ t) = let h = count-is t in omega arith
 
 -- ---- handles
+wide-handles : (h : Handles) → length (handlesOf h) ≡ 16
+unfolding handlesOf
+wide-handles h = length-held (liveOf (h .live)) (replicate 16 tt) (omega (arith, length-live (h .live)))
+
 module _ (h : Handles) (s : HandlesSound h) where
   pub has-is : (n : ℕ) (b : Bool) → b ≡ getD (liveOf (h .live)) n false → b ≡ isLive (lookup (handlesOf h) n)
   unfolding handlesOf
@@ -53,6 +58,10 @@ module _ (h : Handles) (s : HandlesSound h) where
           let small = live-below 16 (liveOf (h .live)) n (s .within) q in
           sym (ap isLive (held-live (liveOf (h .live)) (replicate 16 tt) n tt small q))
       go false q = sym (ap isLive (held-free (liveOf (h .live)) (replicate 16 tt) n q))
+
+  -- a live handle's number is one of the kind's
+  pub handle-small : (n : ℕ) (a : Mark) → lookup (handlesOf h) n ≡ some a → n < 16
+  handle-small n a e = lt-of-not-le (λ k. let z : none ≡ some a = sym (List·getD-eq-default (handlesOf h) none {n = n} (omega (arith, wide-handles h))) ∙ e in let y : _≡_ {A = ℕ} 0 1 = cc in omega arith)
 
   pub count-live : (n : ℕ) → n ≡ countLive (liveOf (h .live)) → n ≡ live (handlesOf h)
   unfolding handlesOf
@@ -133,11 +142,12 @@ module _ (p : Permits) (snd : PermitsSound p) where
         held-live (liveOf (p .live)) (map ownerOf (p .table)) n 0 (omega (arith, permit-small t, snd .sized, length-map (p .table) ownerOf)) (sym e ∙ t)
         ∙ ap some (List·getD-map ownerOf (p .table) n noPermit)
 
-    pub owned-yes : b ≡ true → h ≡ getD (p .table) n noPermit .owner → 1 ≡ of (belongs h) (lookup (permitsOf p) n)
-    owned-yes t g = sym (ap (of (belongs h)) (permit-row t) ∙ (ap (belongs h) (sym g) ∙ same-yes h))
+    module _ (own : ℕ) (o : own ≡ getD (p .table) n noPermit .owner) (t : b ≡ true) where
+      pub owned-yes : h ≡ own → 1 ≡ of (belongs h) (lookup (permitsOf p) n)
+      owned-yes g = sym (ap (of (belongs h)) (permit-row t) ∙ (ap (belongs h) (sym (g ∙ o)) ∙ same-yes h))
 
-    pub owned-no : b ≡ true → (h ≡ getD (p .table) n noPermit .owner → ⊥) → 0 ≡ of (belongs h) (lookup (permitsOf p) n)
-    owned-no t g = sym (ap (of (belongs h)) (permit-row t) ∙ same-no h _ g)
+      pub owned-no : (h ≡ own → ⊥) → 0 ≡ of (belongs h) (lookup (permitsOf p) n)
+      owned-no g = sym (ap (of (belongs h)) (permit-row t) ∙ same-no h (getD (p .table) n noPermit .owner) (λ z. g (z ∙ sym o)))
 
     pub owned-none : b ≡ false → 0 ≡ of (belongs h) (lookup (permitsOf p) n)
     unfolding permitsOf
@@ -182,19 +192,15 @@ module _ (h : Handles) (snd : HandlesSound h) where
     unfolding handlesOf
     first-handle = firstFree-held 16 (liveOf (h .live)) (replicate 16 tt) refl (omega (arith, length-live (h .live))) (snd .within) ∙ sym e
 
-    wide-handles : length (handlesOf h) ≡ 16
-    unfolding handlesOf
-    wide-handles = length-held (liveOf (h .live)) (replicate 16 tt) (omega (arith, length-live (h .live)))
-
     pub handle-given : (l : Live) → n < 16 → liveOf l ≡ set (liveOf (h .live)) n true → Clones h (record { number = GivenNo n; handles = record { live = l } })
     unfolding handlesOf
     handle-given l b q =
         record {
           sound = record { within = subst (Within 16) (sym q) (within-with 16 (liveOf (h .live)) n b (snd .within)) };
-          number = sym (lowest-is (handlesOf h) (omega (arith, first-handle, wide-handles)) ∙ ap some first-handle);
+          number = sym (lowest-is (handlesOf h) (omega (arith, first-handle, wide-handles h)) ∙ ap some first-handle);
           handles =
               ap₂ held q (sym (set-getD (replicate 16 tt) n tt)) ∙ held-open (liveOf (h .live)) (replicate 16 tt) n tt;
         }
 
     pub handle-full : 16 ≤ n → Clones h (record { number = NoRoom; handles = h })
-    handle-full b = record { sound = snd; number = sym (lowest-not (handlesOf h) (omega (arith, first-handle, wide-handles))); handles = refl }
+    handle-full b = record { sound = snd; number = sym (lowest-not (handlesOf h) (omega (arith, first-handle, wide-handles h))); handles = refl }

@@ -12,7 +12,7 @@ pub struct Handles {
 }
 
 pub struct Permit {
-    pub owner: u32,
+    pub owner: u8,
 }
 
 pub struct Permits {
@@ -34,6 +34,13 @@ pub struct Cloned {
 pub struct Given {
     pub number: Number,
     pub permits: Permits,
+}
+
+// An owner's number, which is kept in a byte, as a number.
+pub fn wide(owner: u8) -> u32
+    ensures { λ r. ⌜ r ≡ owner ⌝ }
+{
+    owner as u32
 }
 
 impl Handles {
@@ -119,7 +126,7 @@ impl Permits {
     }
 
     // A permit of a sender at the lowest free number, if there is one.
-    pub fn open(self, owner: u32) -> Given
+    pub fn open(self, owner: u8) -> Given
         requires { ⌜ PermitsSound self ⌝ }
         ensures { λ r. ⌜ Gives self owner r ⌝ }
     {
@@ -182,7 +189,8 @@ impl Permits {
         if word.has(n) {
             let i = n as usize;
             let permit = self.table[i];
-            if owner == permit.owner {
+            let own = wide(permit.owner);
+            if owner == own {
                 return 1;
             }
         }

@@ -1,6 +1,6 @@
 -- `queue::Queue::make` meets its contract.
 -- Assumes nothing.
-use Rattle.queue.proofs.Making.{made-nought, made-large, made-good, none-sound}
+use Rattle.queue.proofs.Making.{made-nought, made-large, made-good}
 use borrow.Author.Needs.{needs}
 use Rattle.queue.proofs.Queue.make.Statement.{statement}
 use Rattle.queue.proofs.Queue.make.Tie as tie

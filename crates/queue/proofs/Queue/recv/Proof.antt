@@ -1,6 +1,7 @@
 -- `queue::Queue::recv` meets its contract.
 -- Assumes nothing.
 use Rattle.queue.proofs.Receiving.{recv-dead, recv-full, recv-given}
+use Rattle.queue.proofs.Settled.{owner-fits}
 use borrow.Author.Needs.{needs}
 use Rattle.queue.proofs.Queue.recv.Statement.{statement}
 use Rattle.queue.proofs.Queue.recv.Tie as tie
@@ -13,6 +14,9 @@ plain-requires c κs = search needs
 
 returns : tie.Need-returns
 returns c = search recv-dead
+
+cast-owner : tie.Need-cast-owner
+cast-owner c = search owner-fits
 
 open-requires : tie.Need-open-requires
 open-requires c κs = search needs
@@ -42,6 +46,7 @@ recv-spec =
     has-requires
     plain-requires
     returns
+    cast-owner
     open-requires
     enum-told
     plain-requires-2

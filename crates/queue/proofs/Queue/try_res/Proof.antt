@@ -1,6 +1,7 @@
 -- `queue::Queue::try_res` meets its contract. No such sender; no receiver; full; given.
 -- Assumes nothing.
 use Rattle.queue.proofs.Sending.{res-dead, res-gone, res-full, res-given, room-free, sound-free}
+use Rattle.queue.proofs.Settled.{owner-fits}
 use borrow.Author.Needs.{needs}
 use Rattle.queue.proofs.Queue.try_res.Statement.{statement}
 use Rattle.queue.proofs.Queue.try_res.Tie as tie
@@ -32,6 +33,9 @@ returns-3 c = search res-full
 sub-self : tie.Need-sub-self
 sub-self c = search needs
 
+cast-owner : tie.Need-cast-owner
+cast-owner c = search owner-fits
+
 complete-requires : tie.Need-complete-requires
 complete-requires c κs = search (room-free, sound-free)
 
@@ -51,5 +55,6 @@ try-res-spec =
     plain-requires-3
     returns-3
     sub-self
+    cast-owner
     complete-requires
     returns-4)

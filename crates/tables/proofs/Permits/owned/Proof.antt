@@ -8,11 +8,11 @@ use Rattle.tables.proofs.Permits.owned.Tie as tie
 has-requires : tie.Need-has-requires
 has-requires c κs = search needs
 
-mul-permit : tie.Need-mul-permit
-mul-permit c = search needs
-
 element-copy-out-permit : tie.Need-element-copy-out-permit
 element-copy-out-permit c = search permit-small
+
+wide-requires : tie.Need-wide-requires
+wide-requires c κs = search needs
 
 returns : tie.Need-returns
 returns c = search owned-yes
@@ -26,4 +26,4 @@ returns-3 c = search owned-none
 pub owned-spec : {M : Type 1} → statement M
 owned-spec =
     tie.close
-    (tie.spec has-requires mul-permit element-copy-out-permit returns returns-2 returns-3)
+    (tie.spec has-requires element-copy-out-permit wide-requires returns returns-2 returns-3)

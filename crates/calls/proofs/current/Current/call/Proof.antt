@@ -7,8 +7,8 @@ use Rattle.calls.proofs.current.Current.call.Tie as tie
 step-requires : tie.Need-step-requires
 step-requires c κs = search needs
 
-shown-requires : tie.Need-shown-requires
-shown-requires c κs = search needs
+took-requires : tie.Need-took-requires
+took-requires c κs = search needs
 
 returns : tie.Need-returns
 returns c = search call-answered
@@ -20,5 +20,4 @@ returns-2 : tie.Need-returns-2
 returns-2 c = search no-queue
 
 pub call-spec : {M : Type 1} → statement M
-call-spec =
-    tie.close (tie.spec step-requires shown-requires returns bare-answer-requires returns-2)
+call-spec = tie.close (tie.spec step-requires took-requires returns bare-answer-requires returns-2)

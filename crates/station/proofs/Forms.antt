@@ -3,21 +3,21 @@
 -- Assumes nothing.
 use denote.Struct.Laws as LL
 use denote.Enum.Laws as EL
 use Rattle.queue.specs.declared.Queue.{Queue}
 use Rattle.model.specs.declared.Call.{Call}
 use Rattle.queue.specs.declared.Answer.{Answer}
 use Rattle.queue.specs.declared.Turn.{Turn}
-use Rattle.queue.proofs.Thin as Thin
-use Rattle.queue.proofs.Thin.{Data, Laws, Turns, Splits}
-use Rattle.queue.proofs.Lent.{Joins}
+use Rattle.station.proofs.Thin as Thin
+use Rattle.station.proofs.Thin.{Data, Laws, Turns, Splits}
+use Rattle.station.proofs.Lent.{Joins}
 use Rattle.queue.proofs.Queue as TQ
 use Rattle.queue.proofs.Queue.Laws as TQ′
 use Rattle.model.proofs.Call as TC
 use Rattle.model.proofs.Call.Laws as TC′
 use Rattle.queue.proofs.Answer as TA
 use Rattle.queue.proofs.Answer.Laws as TA′
 use Rattle.queue.proofs.Turn as TT
 use Rattle.queue.proofs.Turn.Laws as TT′
 
 abbrev pub Qd : Data
 Qd = record { D = Queue; τ = TQ′.mir; written = TQ.the-row .written; reaches = TQ.the-row .reaches; own = TQ.the-row .own; coded = TQ.the-row .coded; val = LL.val TQ.the-type TQ′.the-laws }

@@ -31,7 +31,6 @@ use denote.Lend.{lends-ref, ref-back}
 use denote.Memory.{mem, partAt, partOf, cellAt}
 use denote.RattleType.{RattleType, owns}
 use denote.Ref.{RefT, MutRef}
-use denote.Signature.{plain}
 use denote.Steps.{only, owned, peeks, heard, nothing}
 use denote.Struct.Steps.{spelt}
 use denote.Triple.Entry.{onEntry}
@@ -40,7 +39,7 @@ use denote.Triple.Statement.{Contract, Triple}
 use denote.Triple.Call.{calls-at}
 use denote.Triple.Clauses.{ensured, lasts, closing}
 use denote.Triple.Walked.{says, needs, Stays, stay-none, walkOf, AllGo, goes-none, Walks, ends-at, walked, walk-meets}
-use Rattle.queue.proofs.Thin.{Data, row, Laws, Turns, turn, Splits, entry-ended, entry-clauses, step-ended, step-clauses}
+use Rattle.station.proofs.Thin.{Data, row, Laws, Turns, turn, Splits, entry-ended, entry-clauses, step-ended, step-clauses}
 
 -- the machine value of a turn that is put together
 abbrev pub joined : (Q A : Data) → A .D → Q .D → Val

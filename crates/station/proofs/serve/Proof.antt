@@ -1,20 +1,20 @@
--- `queue::serve` meets its contract: `Thin.antt`'s walk, at the crate's types.
+-- `station::serve` meets its contract: `Thin.antt`'s walk, at the crate's types.
 -- Assumes nothing.
 use contract.Running.{givenOf, tables, tablesOf}
 use denote.Triple.Spec.{tripleOf}
 use denote.Triple.Table.{entered, cited}
 use Rattle.queue.specs.Meaning.{Sound}
 use Rattle.queue.specs.Promise.{Turned}
-use Rattle.queue.proofs.Thin.{entry-meets}
-use Rattle.queue.proofs.Forms.{Qd, Cd, Ad, Td, Q-laws, C-laws, A-laws, T-splits}
+use Rattle.station.proofs.Thin.{entry-meets}
+use Rattle.station.proofs.Forms.{Qd, Cd, Ad, Td, Q-laws, C-laws, A-laws, T-splits}
 use Rattle.queue.proofs.Queue.step as step
 use Rattle.queue.proofs.Queue.step.Symbol as step-def
 use Rattle.queue.proofs.Queue.step.Symbol.{name as #step}
 use Rattle.queue.proofs.Queue.step.Met as step-thm
-use Rattle.queue.proofs.serve.Key.{name as #serve}
-use Rattle.queue.proofs.serve as serve
-use Rattle.queue.proofs.serve.Statement as stated
-use Rattle.queue.proofs.serve.Code as code
+use Rattle.station.proofs.serve.Key.{name as #serve}
+use Rattle.station.proofs.serve as serve
+use Rattle.station.proofs.serve.Statement as stated
+use Rattle.station.proofs.serve.Code as code
 
 pub serve-spec : {M : Type 1} → stated.statement M
 unfolding code.routine tablesOf
