@@ -2,3 +2,4 @@ pub mod Answering
 pub mod Lines
 pub mod Laws
 pub mod Agree
+pub mod One
