@@ -64,7 +64,7 @@ fn cargo(c: Cargo) -> Field
 }
 
 // The code of an answer.
-pub fn code(what: What) -> u32
+pub(crate) fn code(what: What) -> u32
     ensures { λ r. ⌜ r ≡ codeOf what ⌝ }
 {
     match what {
@@ -126,7 +126,7 @@ fn within(n: usize) -> usize
 }
 
 // The queue's answer, to be shown.
-pub fn shown(a: queue::Answer) -> lines::Answer
+pub(crate) fn shown(a: queue::Answer) -> lines::Answer
     ensures { λ r. ⌜ (told r ≡ ansOf a) × Counted r ⌝ }
 {
     let what = a.what;
@@ -150,7 +150,7 @@ pub fn shown(a: queue::Answer) -> lines::Answer
 }
 
 // An answer with a code alone.
-pub fn bare_answer(code: u32) -> lines::Answer
+pub(crate) fn bare_answer(code: u32) -> lines::Answer
     ensures { λ r. ⌜ (told r ≡ bare code) × Counted r ⌝ }
 {
     lines::Answer {

@@ -39,7 +39,7 @@ fn took(turn: Turn) -> Answered
 
 impl Current {
     // Before the first good make.
-    pub fn nothing() -> Current
+    pub(crate) fn nothing() -> Current
         ensures { λ r. ⌜ Kept r × (meaning r ≡ none) ⌝ }
     {
         let refused = Queue::make(0);
@@ -51,7 +51,7 @@ impl Current {
     }
 
     // What a line does.
-    pub fn answer(self, line: Line) -> Answered
+    pub(crate) fn answer(self, line: Line) -> Answered
         requires { ⌜ Kept self ⌝ }
         ensures { λ r. ⌜ Steps self line r ⌝ }
     {

@@ -21,7 +21,7 @@ pub struct Fed {
     pub put: usize,
 }
 
-pub fn begin() -> State
+pub(crate) fn begin() -> State
     ensures { λ r. ⌜ (seen r ≡ start) × Ready r ⌝ }
 {
     State {
@@ -34,7 +34,7 @@ pub fn begin() -> State
 
 // Reads the chunk from `from` on, until it ends or the buffer may not hold one more answer. What was put and what the rest of the chunk
 // will put is together what the chunk puts.
-pub fn feed(st: State, chunk: &[u8], from: usize, out: &mut [u8]) -> Fed
+pub(crate) fn feed(st: State, chunk: &[u8], from: usize, out: &mut [u8]) -> Fed
     requires { ⌜ Ready st ⌝ }
     requires { ⌜ from ≤ length (now chunk) ⌝ }
     requires { ⌜ 1024 ≤ length (now out) ⌝ }
@@ -82,7 +82,7 @@ pub fn feed(st: State, chunk: &[u8], from: usize, out: &mut [u8]) -> Fed
 }
 
 // What is written at the input's end: the answer to a last line that has no LF.
-pub fn last(st: State, out: &mut [u8]) -> usize
+pub(crate) fn last(st: State, out: &mut [u8]) -> usize
     requires { ⌜ Ready st ⌝ }
     requires { ⌜ 1024 ≤ length (now out) ⌝ }
     requires { ⌜ st .count + 1 < 2 ^ 64 ⌝ }

@@ -1,12 +1,8 @@
--- Promises determine. `parse`, `number` and `spaces` answer by an equation; of what puts text into a buffer any two answers end at one place and
--- leave one buffer; and a word ends at one place. Assumes nothing.
-use Prim.Native.Nat.{ℕ, _<_, _≤_}
-use mathlib.Core.List.{List, [], _∷_, _++_}
-use mathlib.Core.Path.{_≡_, refl, sym, ap, ap₂, _∙_}
-use native.Mathlib.Decide.{decLt}
-use native.Mathlib.Omega.{arith}
-use lib.ListN.{length, getD, take, drop, take-append-drop}
-use Rattle.lines.specs.Text.{space}
+-- Promises determine. `parse` answers by an equation; any two answers of `print` end at one place and leave one buffer. Assumes nothing.
+use Prim.Native.Nat.{ℕ}
+use mathlib.Core.List.{List, _++_}
+use mathlib.Core.Path.{_≡_, sym, ap, ap₂, _∙_}
+use lib.ListN.{take, drop, take-append-drop}
 use Rattle.lines.specs.Shown.{Put}
 
 -- print
@@ -16,19 +12,3 @@ put-one old new new′ at r r′ text p q =
     let front : take r new ≡ take r′ new′ = p .holds ∙ sym (q .holds) in
     let back : drop r new ≡ drop r′ new′ = p .beyond ∙ (ap (λ (n : ℕ). drop n old) e ∙ sym (q .beyond)) in
     (e, sym (take-append-drop r new) ∙ (ap₂ _++_ front back ∙ take-append-drop r′ new′))
-
--- what `word_end` promises of the word's end r in s
-pub record Ends (s : List ℕ) (r : ℕ) : Type 0 where
-  pub within : r ≤ length s
-  pub before : (k : ℕ) → k < r → getD s k 0 ≡ space → ⊥
-  pub found : r < length s → getD s r 0 ≡ space
-
-pub ends-one : (s : List ℕ) (r t : ℕ) → Ends s r → Ends s t → r ≡ t
-ends-one s r t p q =
-    elim (decLt r t) [
-      | yes h ↦ absurd (q .before r h (p .found (omega (arith, q .within))))
-      | no h ↦ elim (decLt t r) [
-        | yes g ↦ absurd (p .before t g (q .found (omega (arith, p .within))))
-        | no g ↦ omega arith
-      ]
-    ]

@@ -11,7 +11,7 @@ pub enum Num {
 }
 
 // Reads a number in decimal without leading zeros, from 0 to `most`.
-pub fn number(w: &[u8], most: u64) -> Num
+pub(crate) fn number(w: &[u8], most: u64) -> Num
     ensures { λ r. ⌜ r ≡ Text·number most (now (w .entry)) ⌝ }
 {
     if w.len() == 0 {
@@ -47,7 +47,7 @@ pub fn number(w: &[u8], most: u64) -> Num
 }
 
 // The length of the first word: where the first space stands, or the length where there is none.
-pub fn word_end(s: &[u8]) -> usize
+pub(crate) fn word_end(s: &[u8]) -> usize
     ensures within { λ r. ⌜ r ≤ length (now (s .entry)) ⌝ }
     ensures before { λ r. ⌜ ((k : ℕ) → k < r → getD (now (s .entry)) k 0 ≡ space → ⊥) ⌝ }
     ensures found { λ r. ⌜ (r < length (now (s .entry)) → getD (now (s .entry)) r 0 ≡ space) ⌝ }
@@ -63,7 +63,7 @@ pub fn word_end(s: &[u8]) -> usize
 }
 
 // How many spaces there are.
-pub fn spaces(s: &[u8]) -> usize
+pub(crate) fn spaces(s: &[u8]) -> usize
     ensures { λ r. ⌜ r ≡ Text·spaces (now (s .entry)) ⌝ }
 {
     let mut n: usize = 0;

@@ -54,7 +54,7 @@ module _ (v w : WaitList) (s : Same v w) where
   unfolding along
   wake-one r t p q = (
     p .tokens
-    ∙ (ap (map (λ (k : ℕ). tokenOf (held v k))) (s .lines)
-    ∙ (map-same (λ (k : ℕ). tokenOf (held v k)) (λ (k : ℕ). tokenOf (held w k)) (line w) (λ k _. ap tokenOf (s .holds k)) ∙ sym (q .tokens))),
+        ∙ (ap (map (λ (k : ℕ). tokenOf (held v k))) (s .lines)
+        ∙ (map-same (λ (k : ℕ). tokenOf (held v k)) (λ (k : ℕ). tokenOf (held w k)) (line w) (λ k _. ap tokenOf (s .holds k)) ∙ sym (q .tokens))),
     p .number ∙ (ap length (s .lines) ∙ sym (q .number)),
   )
