@@ -45,10 +45,10 @@ fn one(v: u32) -> Field
 }
 
 fn six(c: Counts) -> Field
-    ensures { λ r. ⌜ Says r (c .queued ∷ c .free ∷ c .permits ∷ c .granted ∷ c .inline ∷ c .waiting ∷ []) ⌝ }
+    ensures { λ r. ⌜ Says r (c .queued ∷ c .free ∷ c .permits ∷ c .granted ∷ c .lined ∷ c .waiting ∷ []) ⌝ }
 {
     Field {
-        all: [c.queued, c.free, c.permits, c.granted, c.inline, c.waiting],
+        all: [c.queued, c.free, c.permits, c.granted, c.lined, c.waiting],
         n: 6,
     }
 }

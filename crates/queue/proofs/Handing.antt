@@ -201,4 +201,4 @@ status-is q s a snd k u =
     (ap (λ (f : List ℕ). model.reply model.STATUS f [] [] (queueOf q)) fields)
   where
     fields : fieldOf (WStatus s) ≡ length (ring.values (q .values)) ∷ q .free ∷ live (permitsOf (q .permits)) ∷ side.calledCount (sideOf (q .outs)) ∷ length (sideOf (q .outs) .line) ∷ side.polledCount (sideOf (q .ins)) ∷ []
-    fields = let h1 = k .queued in let h2 = k .free in let h3 = k .permits in let h4 = k .granted in let h5 = k .inline in let h6 = k .waiting in cc
+    fields = let h1 = k .queued in let h2 = k .free in let h3 = k .permits in let h4 = k .granted in let h5 = k .lined in let h6 = k .waiting in cc

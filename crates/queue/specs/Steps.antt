@@ -82,7 +82,7 @@ pub record Counted (q : Queue) (r : Counts) : Type 0 where
   pub free : r .free ≡ q .free
   pub permits : r .permits ≡ live (queueOf q .permits)
   pub granted : r .granted ≡ side.calledCount (queueOf q .outs)
-  pub inline : r .inline ≡ length (queueOf q .outs .line)
+  pub lined : r .lined ≡ length (queueOf q .outs .line)
   pub waiting : r .waiting ≡ side.polledCount (queueOf q .ins)
 
 -- ---- a queue with nothing in it, and these handles on both sides

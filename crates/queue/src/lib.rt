@@ -41,7 +41,7 @@ pub struct Counts {
     pub free: u32,
     pub permits: u32,
     pub granted: u32,
-    pub inline: u32,
+    pub lined: u32,
     pub waiting: u32,
 }
 

@@ -36,19 +36,20 @@ fn is_ready(stage: Stage, free: u32) -> bool
 }
 
 impl Queue {
-    // The first receiver in line, if any, is notified: 0.
+    // Done, and the first receiver in line, if any, is notified. The side is read anew where someone waits, so that an empty line costs no copy.
     pub(crate) fn notify(mut self) -> Turn
         requires { ⌜ Shaped self ⌝ }
         ensures { λ r. ⌜ Notifies self r ⌝ }
     {
-        let ins = self.ins;
-        if ins.line_is_empty() {
+        let waiting = self.ins;
+        if waiting.line_is_empty() {
             let answer = plain(What::Done);
             return Turn {
                 answer: answer,
                 queue: self,
             };
         }
+        let ins = self.ins;
         let called = ins.call_first();
         let woken = called.woken;
         let side = called.side;
@@ -60,7 +61,7 @@ impl Queue {
         }
     }
 
-    // A value goes to the end, and the first receiver in line, if any, is notified: 0.
+    // Done: the value goes to the end, and the first receiver in line, if any, is notified.
     fn push(mut self, v: u32) -> Turn
         requires { ⌜ Shaped self ⌝ }
         requires { ⌜ length (queueOf self .values) < 64 ⌝ }
@@ -87,8 +88,8 @@ impl Queue {
                 queue: self,
             };
         }
-        let outs = self.outs;
-        if outs.line_is_empty() {
+        let line = self.outs;
+        if line.line_is_empty() {
             self.free = self.free + 1;
             let answer = say(what, Woken::Nobody, retired);
             return Turn {
@@ -96,6 +97,7 @@ impl Queue {
                 queue: self,
             };
         }
+        let outs = self.outs;
         let called = outs.call_first();
         let woken = called.woken;
         let side = called.side;
@@ -140,7 +142,8 @@ impl Queue {
         self.push(v)
     }
 
-    // An outgoing operation that has its slot in hand and is gone from its side: a reserve ends with a permit of its sender, a send with a push.
+    // An outgoing operation that has its slot in hand, and is gone from its side already, ends: a reserve with a permit of its sender, a send with
+    // a push. (A permit's number is always to be had; that arm is never taken.)
     fn complete(mut self, cargo: Cargo, owner: u8) -> Turn
         requires { ⌜ Shaped self ⌝ }
         requires { ⌜ length (queueOf self .values) < 64 ⌝ }

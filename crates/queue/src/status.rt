@@ -21,7 +21,7 @@ impl Queue {
         let permits = table.count();
         let outs = self.outs;
         let granted = outs.called();
-        let inline = outs.in_line();
+        let lined = outs.in_line();
         let ins = self.ins;
         let waiting = ins.polled();
         Counts {
@@ -29,7 +29,7 @@ impl Queue {
             free: self.free,
             permits: permits,
             granted: granted,
-            inline: inline,
+            lined: lined,
             waiting: waiting,
         }
     }

@@ -1,4 +1,5 @@
 // One side of the queue: its open operations and the line in which they wait. The outgoing and the incoming side are two of these.
+// After src/mpmc/queue.rs of asyncband 0.7.4 (the state of Reserve and Recv, and what it does with its wait lists).
 // Its meaning is the `Side` of the model (`sideOf`, specs/Meaning.antt): the table of the open operations and the line by their numbers;
 // each method is the model's move or count of that name (specs/Calls.antt). What ties operations to wait nodes is `Sound` (specs/Sound.antt).
 use arena::OptWaiter;
