@@ -38,15 +38,15 @@ pub enum Mark {
 }
 
 pub struct Op {
-    pub owner: u8,
-    pub cargo: Cargo,
-    pub mark: Mark,
+    owner: u8,
+    cargo: Cargo,
+    mark: Mark,
 }
 
 pub struct Side {
-    pub live: Live,
-    pub ops: [Op; 32],
-    pub waiters: WaitList,
+    live: Live,
+    ops: [Op; 32],
+    waiters: WaitList,
 }
 
 // How far an operation is, as its caller sees it.

@@ -8,16 +8,16 @@ ghost use Rattle.tables.specs.Meaning.{handlesOf, permitsOf, isLive, noP
 ghost use Rattle.tables.specs.Calls.{NoHandles, NoPermits, Clones, Leaves, Gives, Drops};
 
 pub struct Handles {
-    pub live: Live,
+    live: Live,
 }
 
 pub struct Permit {
-    pub owner: u8,
+    owner: u8,
 }
 
 pub struct Permits {
-    pub live: Live,
-    pub table: [Permit; 64],
+    live: Live,
+    table: [Permit; 64],
 }
 
 // The number of a new record of any kind, if one was free.
