@@ -37,9 +37,10 @@ pub enum Mark {
     Void,
 }
 
+// The two that take a byte or two stand together, which keeps a record at 12 bytes.
 pub struct Op {
-    owner: u8,
     cargo: Cargo,
+    owner: u8,
     mark: Mark,
 }
 
