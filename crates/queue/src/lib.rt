@@ -22,16 +22,17 @@ ghost use Rattle.queue.specs.Meaning.{Sound};
 ghost use Rattle.queue.specs.Promise.{Turned, Made};
 ghost use Rattle.queue.specs.Steps.{Blank};
 
-// Only make and the calls give a queue, and nobody else reads or writes its fields.
+// Only make and the calls give a queue, and nobody else reads or writes its fields. Their order is for speed: the large parts stand apart, with
+// numbers between them, so that a call which leaves one of them alone copies it once.
 pub struct Queue {
+    outs: Side,
     capacity: u32,
-    values: Ring,
     free: u32,
     senders: Handles,
     receivers: Handles,
-    permits: Permits,
-    outs: Side,
     ins: Side,
+    values: Ring,
+    permits: Permits,
 }
 
 // What status tells, in its order: values queued, free room, live permits, operations with a grant, senders in line, and incoming operations
@@ -84,14 +85,14 @@ impl Queue {
         let permits = Permits::fresh();
         let side = Side::fresh();
         Queue {
+            outs: side,
             capacity: capacity,
-            values: values,
             free: capacity,
             senders: handles,
             receivers: handles,
-            permits: permits,
-            outs: side,
             ins: side,
+            values: values,
+            permits: permits,
         }
     }
 
