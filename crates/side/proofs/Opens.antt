@@ -1,6 +1,6 @@
 -- What each way through `fresh`, `get`, `open` and the small functions shows. Assumes nothing.
 use Prim.Native.Nat.{ℕ, zero, suc, _<_, _≤_}
-use mathlib.Core.Path.{_≡_, refl, sym, ap, _∙_, subst}
+use mathlib.Core.Path.{_≡_, refl, sym, ap, ap₂, _∙_, subst}
 use mathlib.Core.Bool.{Bool, true, false}
 use mathlib.Core.List.{List, [], _∷_, map, List·Memᴰ, List·Memᴰ·not-nil}
 use mathlib.Core.Option.{Option, none, some}
@@ -22,9 +22,10 @@ use Rattle.live.specs.Bits.{liveOf, noneLive, lowestClear}
 use Rattle.live.specs.Table.{Within, held as table, firstFree}
 use Rattle.live.proofs.Laws.{live-below, length-live, within-none, within-with, lowest-clear}
 use Rattle.live.proofs.Tables.{held-live, held-free, held-open, held-none, firstFree-held}
-use Rattle.model.specs.Table.{Table, blank}
+use Rattle.model.specs.Table.{Table, blank, put}
 use Rattle.model.specs.Side as model
 use Rattle.side.specs.declared.Cargo.{Cargo}
+use Rattle.side.specs.declared.Cargo.the-variants.{Nothing, Value}
 use Rattle.side.specs.declared.Mark.{Mark}
 use Rattle.side.specs.declared.Mark.the-variants.{Idle, At, Void}
 use Rattle.side.specs.declared.Op.{Op}
@@ -35,7 +36,7 @@ use Rattle.side.specs.declared.View.the-variants.{Missing, Found}
 use Rattle.tables.specs.declared.Number.the-variants.{NoRoom, Given}
 use Rattle.side.specs.declared.OptToken.the-variants.{NoToken, Token}
 use Rattle.side.specs.declared.Woken.the-variants.{Op as OneOp}
-use Rattle.side.specs.Meaning.{freshOp, Deed, stageIn, stageBy, deedBy, through, opsOf, tableOf, sideOf, stageOf, tokenList, voidMark, voided}
+use Rattle.side.specs.Meaning.{freshOp, carried, valueIn, isValue, cargoBy, Deed, stageIn, stageBy, deedBy, through, opsOf, tableOf, sideOf, stageOf, tokenList, voidMark, voided}
 use Rattle.side.specs.Sound.{nodeIn, nodeAt, Ties, Sound}
 use Rattle.side.specs.Calls.{Fresh, Sees, Opens, wokenOf}
 use Rattle.tables.proofs.Laws.{map-set, lowest-is, lowest-not}
@@ -58,6 +59,14 @@ module _ (w : WaitList) (m : Mark) (id : WaiterId) (h : Held) (e : m ≡ At id) 
 pub kept-waiting : (st : Stage) (t : ℕ) → st ≡ SWaiting t → tokenList (Token t) ≡ model.kept (stageOf st)
 kept-waiting st t e = sym (ap (λ (z : Stage). model.kept (stageOf z)) e)
 
+-- ---- Cargo::of
+module _ (b : Bool) (v : ℕ) where
+  pub cargo-value : b ≡ true → Value v ≡ cargoBy b v
+  cargo-value e = sym (ap (λ (x : Bool). cargoBy x v) e)
+
+  pub cargo-nothing : b ≡ false → Nothing ≡ cargoBy b v
+  cargo-nothing e = sym (ap (λ (x : Bool). cargoBy x v) e)
+
 pub replaced-same : (old new : ℕ) → old ≡ new → tokenList NoToken ≡ model.replaced (model.waiting old) new
 replaced-same old new e = rw (eq-eqb old new e)
 
@@ -69,7 +78,7 @@ woken-op h op t x e f = sym (ap wokenOf e ∙ ap (λ (y : Waiter). wokenOf (Hold
 
 module _ (op : Op) where
   abbrev with-mark : Mark → Op
-  with-mark m = record { owner = op .owner; cargo = op .cargo; mark = m }
+  with-mark m = record { value = op .value; carries = op .carries; owner = op .owner; mark = m }
 
   pub void-idle : op .mark ≡ Idle → op ≡ voided op
   void-idle e = ap with-mark (e ∙ sym (ap voidMark e))
@@ -77,7 +86,7 @@ module _ (op : Op) where
   pub void-void : op .mark ≡ Void → op ≡ voided op
   void-void e = ap with-mark (e ∙ sym (ap voidMark e))
 
-  pub void-node : (id : WaiterId) → op .mark ≡ At id → record { owner = op .owner; cargo = op .cargo; mark = Void } ≡ voided op
+  pub void-node : (id : WaiterId) → op .mark ≡ At id → record { value = op .value; carries = op .carries; owner = op .owner; mark = Void } ≡ voided op
   void-node id e = ap with-mark (sym (ap voidMark e))
 
 -- ---- fresh
@@ -121,11 +130,11 @@ module _ (s : Side) (snd : Sound s) (n : ℕ) (b : Bool) (e : b ≡ getD (liveOf
   pub live-small : b ≡ true → n < 32
   live-small t = live-below 32 (liveOf (s .live)) n (snd .within) (sym e ∙ t)
 
-  pub get-found : (st : Stage) → b ≡ true → stageOf st ≡ stageBy (s .waiters) (stored s n .mark)
-      → Sees s n (Found (record { owner = stored s n .owner; cargo = stored s n .cargo; stage = st }))
+  pub get-found : (st : Stage) (j : Cargo) → b ≡ true → j ≡ cargoBy (stored s n .carries) (stored s n .value) → stageOf st ≡ stageBy (s .waiters) (stored s n .mark)
+      → Sees s n (Found (record { owner = stored s n .owner; cargo = j; stage = st }))
   unfolding sideOf
-  get-found st t q =
-      ap (λ (z : model.Stage). some (model.reStage (λ old. z) (deedBy (s .waiters) (stored s n)))) q
+  get-found st j t g q =
+      ap₂ (λ (x : Cargo) (z : model.Stage). some (record { owner = stored s n .owner; job = carried x; stage = z })) g q
       ∙ sym (look (tableOf s) (s .waiters) n ∙ ap (through (deedBy (s .waiters))) (held-live (liveOf (s .live)) (s .ops) n freshOp (omega (arith, snd .sized, live-small t)) (sym e ∙ t)))
 
   pub get-missing : b ≡ false → Sees s n Missing
@@ -137,10 +146,10 @@ module _ (s : Side) (snd : Sound s) (h : ℕ) (j : Cargo) (n : ℕ) (e : n ≡ l
   first : firstFree (tableOf s) ≡ n
   first = firstFree-held 32 (liveOf (s .live)) (s .ops) (snd .sized) (omega (arith, length-live (s .live))) (snd .within) ∙ sym e
 
-  pub open-given : (l : Live) → n < 32 → liveOf l ≡ set (liveOf (s .live)) n true
-      → Opens s h j (record { number = Given n; side = record { live = l; ops = set (s .ops) n (record { owner = h; cargo = j; mark = Idle }); waiters = s .waiters } })
+  pub open-given : (l : Live) (v : ℕ) (y : Bool) → n < 32 → v ≡ valueIn j → y ≡ isValue j → liveOf l ≡ set (liveOf (s .live)) n true
+      → Opens s h j (record { number = Given n; side = record { live = l; ops = set (s .ops) n (record { value = v; carries = y; owner = h; mark = Idle }); waiters = s .waiters } })
   unfolding sideOf
-  open-given l b q =
+  open-given l v y b ev ey q =
       record {
         sound = record {
           sized = length-set (s .ops) n new ∙ snd .sized;
@@ -150,11 +159,16 @@ module _ (s : Side) (snd : Sound s) (h : ℕ) (j : Cargo) (n : ℕ) (e : n ≡ l
         number = sym (lowest-through (deedBy (s .waiters)) (tableOf s) ∙ (lowest-is (tableOf s) (omega (arith, first, snd .ties .sized)) ∙ ap some first));
         side =
             ap (λ (t : List (Option Op)). record { ops = opsOf t (s .waiters); line = sideOf s .line }) rows
-            ∙ ap (λ (t : Table Deed). record { ops = t; line = sideOf s .line }) (map-set (through (deedBy (s .waiters))) (tableOf s) n (some new));
+            ∙ (ap (λ (t : Table Deed). record { ops = t; line = sideOf s .line }) (map-set (through (deedBy (s .waiters))) (tableOf s) n (some new))
+            ∙ ap (λ (x : Cargo). record { ops = put (sideOf s .ops) n (record { owner = h; job = carried x; stage = model.idle }); line = sideOf s .line }) (ap₂ cargoBy ey ev ∙ back j));
       }
     where
       new : Op
-      new = record { owner = h; cargo = j; mark = Idle }
+      new = record { value = v; carries = y; owner = h; mark = Idle }
+
+      back : (x : Cargo) → cargoBy (isValue x) (valueIn x) ≡ x
+      back Nothing = refl
+      back (Value k) = refl
 
       rows : table (liveOf l) (set (s .ops) n new) ≡ set (tableOf s) n (some new)
       rows = ap (λ (k : List Bool). table k (set (s .ops) n new)) q ∙ held-open (liveOf (s .live)) (s .ops) n new

@@ -206,7 +206,7 @@ module _ (s : Side) (snd : Sound s) where
     detach-void e = alone-same (node-row ∙ ap nodeOf e)
 
     pub detach-node : (id : WaiterId) (w' : WaitList) → stored s n .mark ≡ At id → Leaves (s .waiters) (id .0 .0) w'
-        → Detaches s n (record { live = s .live; ops = set (s .ops) n (record { owner = stored s n .owner; cargo = stored s n .cargo; mark = Idle }); waiters = w' })
+        → Detaches s n (record { live = s .live; ops = set (s .ops) n (record { value = stored s n .value; carries = stored s n .carries; owner = stored s n .owner; mark = Idle }); waiters = w' })
     unfolding sideOf along
     detach-node id w' e u =
         record {
@@ -228,7 +228,7 @@ module _ (s : Side) (snd : Sound s) where
         i = id .0 .0
 
         new : Op
-        new = record { owner = stored s n .owner; cargo = stored s n .cargo; mark = Idle }
+        new = record { value = stored s n .value; carries = stored s n .carries; owner = stored s n .owner; mark = Idle }
 
         node : nodeAt rows n ≡ Id (waiterId i)
         node = node-row ∙ ap nodeOf e
@@ -268,7 +268,7 @@ module _ (s : Side) (snd : Sound s) where
     join-room a = room (nodeAt rows) (s .waiters) (snd .ties .list) (snd .ties .owned) n is-small a
 
     pub join-done : (t : ℕ) (p : Pushed) → Alone s n → Pushes (s .waiters) n (Waiting t) p
-        → Joins s n t (record { live = s .live; ops = set (s .ops) n (record { owner = stored s n .owner; cargo = stored s n .cargo; mark = At (p .id) }); waiters = p .list })
+        → Joins s n t (record { live = s .live; ops = set (s .ops) n (record { value = stored s n .value; carries = stored s n .carries; owner = stored s n .owner; mark = At (p .id) }); waiters = p .list })
     unfolding sideOf
     join-done t p a u =
         record {
@@ -289,7 +289,7 @@ module _ (s : Side) (snd : Sound s) where
         i = p .id .0 .0
 
         new : Op
-        new = record { owner = stored s n .owner; cargo = stored s n .cargo; mark = At (p .id) }
+        new = record { value = stored s n .value; carries = stored s n .carries; owner = stored s n .owner; mark = At (p .id) }
 
         only : Only rows (set rows n (some new)) w w' n i
         only = only-free new i w' a (u .free) (u .there)

@@ -1,5 +1,6 @@
 -- THE MEANING OF A SIDE: the model's side, whose job is what an operation carries. Assumes nothing.
 use Prim.Native.Nat.{ℕ}
+use mathlib.Core.Bool.{Bool, true, false}
 use mathlib.Core.List.{List, [], _∷_, map}
 use mathlib.Core.Option.{Option, none, some}
 use Rattle.arena.specs.declared.Waiter.the-variants.{Waiting, Called}
@@ -39,9 +40,22 @@ abbrev pub carried : Cargo → Job
 carried Nothing = bare
 carried (Value v) = carrying v
 
+-- a cargo as an operation's record holds it, and back
+abbrev pub valueIn : Cargo → ℕ
+valueIn Nothing = 0
+valueIn (Value v) = v
+
+abbrev pub isValue : Cargo → Bool
+isValue Nothing = false
+isValue (Value v) = true
+
+abbrev pub cargoBy : Bool → ℕ → Cargo
+cargoBy false v = Nothing
+cargoBy true v = Value v
+
 -- what stands at a number that was never given (and what a read past the end of the table stands for)
 abbrev pub freshOp : Op
-freshOp = record { owner = 0; cargo = Nothing; mark = Idle }
+freshOp = record { value = 0; carries = false; owner = 0; mark = Idle }
 
 -- the stage that a node tells (where there is no node: void; never asked of a sound side)
 abbrev pub stageIn : Held → model.Stage
@@ -55,7 +69,7 @@ stageBy w (At id) = stageIn (held w (id .0 .0))
 stageBy w Void = void
 
 abbrev pub deedBy : WaitList → Op → Deed
-deedBy w op = record { owner = op .owner; job = carried (op .cargo); stage = stageBy w (op .mark) }
+deedBy w op = record { owner = op .owner; job = carried (cargoBy (op .carries) (op .value)); stage = stageBy w (op .mark) }
 
 abbrev pub through : {A B : Type 0} → (A → B) → Option A → Option B
 through f none = none
@@ -105,7 +119,7 @@ voidMark (At id) = Void
 voidMark Void = Void
 
 abbrev pub voided : Op → Op
-voided op = record { owner = op .owner; cargo = op .cargo; mark = voidMark (op .mark) }
+voided op = record { value = op .value; carries = op .carries; owner = op .owner; mark = voidMark (op .mark) }
 
 -- ---- 1 or 0, as the model's counts take an operation
 abbrev pub counts : Asked → Deed → ℕ

@@ -19,7 +19,7 @@ ghost use lib.ListN.{length};
 ghost use Rattle.waitlist.specs.Sound as wait;
 ghost use Rattle.waitlist.specs.View.{isNil};
 ghost use Rattle.model.specs.Side as model;
-ghost use Rattle.side.specs.Meaning.{freshOp, sideOf, stageOf, stageBy, deedOf, viewed, tokenList, voided, counts};
+ghost use Rattle.side.specs.Meaning.{valueIn, isValue, cargoBy, freshOp, sideOf, stageOf, stageBy, deedOf, viewed, tokenList, voided, counts};
 ghost use Rattle.model.specs.Table.{of, sum};
 ghost use Rattle.side.specs.Sound.{Sound};
 ghost use Rattle.side.specs.Calls.{Open, Alone, Fresh, Sees, Leaves, Refreshed, Detaches, Joins, Opens, Ends, Pends, CallsOne, Closes, wokenOf};
@@ -37,9 +37,10 @@ pub enum Mark {
     Void,
 }
 
-// The two that take a byte or two stand together, which keeps a record at 12 bytes.
+// What it carries stands as a value and whether there is one, not as a `Cargo`: that keeps a record at 8 bytes.
 pub struct Op {
-    cargo: Cargo,
+    value: u32,
+    carries: bool,
     owner: u8,
     mark: Mark,
 }
@@ -100,6 +101,36 @@ pub struct Closed {
     pub side: Side,
 }
 
+impl Cargo {
+    // The value; 0 where there is none.
+    fn value(self) -> u32
+        ensures { λ r. ⌜ r ≡ valueIn self ⌝ }
+    {
+        match self {
+            Cargo::Nothing => 0,
+            Cargo::Value(v) => v,
+        }
+    }
+
+    fn carries(self) -> bool
+        ensures { λ r. ⌜ r ≡ isValue self ⌝ }
+    {
+        match self {
+            Cargo::Nothing => false,
+            Cargo::Value(_) => true,
+        }
+    }
+
+    fn of(carries: bool, value: u32) -> Cargo
+        ensures { λ r. ⌜ r ≡ cargoBy carries value ⌝ }
+    {
+        if carries {
+            return Cargo::Value(value);
+        }
+        Cargo::Nothing
+    }
+}
+
 impl Op {
     pub const LIMIT: u32 = 32;
 
@@ -108,8 +139,9 @@ impl Op {
         ensures { λ r. ⌜ r ≡ freshOp ⌝ }
     {
         Op {
+            value: 0,
+            carries: false,
             owner: 0,
-            cargo: Cargo::Nothing,
             mark: Mark::Idle,
         }
     }
@@ -270,14 +302,12 @@ fn void(op: Op) -> Op
     match mark {
         Mark::Idle => op,
         Mark::Void => op,
-        Mark::At(_) => {
-            let cargo = op.cargo;
-            Op {
-                owner: op.owner,
-                cargo: cargo,
-                mark: Mark::Void,
-            }
-        }
+        Mark::At(_) => Op {
+            value: op.value,
+            carries: op.carries,
+            owner: op.owner,
+            mark: Mark::Void,
+        },
     }
 }
 
@@ -321,7 +351,7 @@ impl Side {
             let i = n as usize;
             let op = self.ops[i];
             let mark = op.mark;
-            let cargo = op.cargo;
+            let cargo = Cargo::of(op.carries, op.value);
             let waiters = self.waiters;
             let stage = stage_of(waiters, mark);
             return View::Found(Entry {
@@ -342,10 +372,13 @@ impl Side {
         let n = live.lowest();
         if n < Op::LIMIT {
             let i = n as usize;
+            let value = cargo.value();
+            let carries = cargo.carries();
             let mut ops = self.ops;
             ops[i] = Op {
+                value: value,
+                carries: carries,
                 owner: owner,
-                cargo: cargo,
                 mark: Mark::Idle,
             };
             let grown = live.with(n);
@@ -378,11 +411,11 @@ impl Side {
             Mark::Idle => self,
             Mark::Void => self,
             Mark::At(id) => {
-                let cargo = op.cargo;
                 let mut ops = self.ops;
                 ops[i] = Op {
+                    value: op.value,
+                    carries: op.carries,
                     owner: op.owner,
-                    cargo: cargo,
                     mark: Mark::Idle,
                 };
                 let line = self.waiters;
@@ -411,11 +444,11 @@ impl Side {
         let put = line.push_back(number, Waiter::Waiting(token));
         let id = put.id;
         let waiters = put.list;
-        let cargo = op.cargo;
         let mut ops = self.ops;
         ops[i] = Op {
+            value: op.value,
+            carries: op.carries,
             owner: op.owner,
-            cargo: cargo,
             mark: Mark::At(id),
         };
         let live = self.live;
