@@ -1,5 +1,6 @@
 pub mod Settled
 pub mod Sending
+pub mod Sent
 pub mod Receiving
 pub mod Handing
 pub mod Making

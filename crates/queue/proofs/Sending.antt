@@ -1,11 +1,12 @@
--- The exits of what senders do: moves, try_send, try_res, reserve and send, poll_out, cancel_out, permit_send, permit_drop. Assumes nothing.
+-- The exits of what senders do: moves, reserve and send, poll_out, cancel_out, permit_send, permit_drop. (try_send, try_res, and where the arms
+-- of permit_send and permit_drop meet: Sent.antt.) Assumes nothing.
 use Prim.Native.Nat.{ℕ, _+_, _-_, _<_, _≤_}
 use mathlib.Core.Path.{_≡_, refl, sym, ap, ap₂, _∙_}
 use mathlib.Core.Bool.{Bool, true, false, not, _&&_}
 use mathlib.Core.List.{List, [], _∷_, _++_}
 use mathlib.Core.Option.{Option, none, some}
 use native.Mathlib.Omega.{arith}
-use borrow.Author.Tests.{eq-eqb, ne-eqb, eqb-true}
+use borrow.Author.Tests.{eq-eqb, eqb-true}
 use lib.Dec.{eqb, ltb}
 use lib.ListN.{length, take}
 use Rattle.ring.specs.declared.Ring.{Ring}
@@ -37,16 +38,15 @@ use Rattle.side.specs.Calls.{Open, Sees, Opens, openedIf, Ends, Pends, CallsOne
 use Rattle.model.specs.Table.{Table, lookup, lowest, put, clear, live, of, size, if_then_else_}
 use Rattle.model.specs.Side as side
 use Rattle.model.specs.Queue as model
-use Rattle.model.specs.declared.Call.the-variants.{TrySend, TryRes, PollOut, CancelOut, PermitSend, PermitDrop}
+use Rattle.model.specs.declared.Call.the-variants.{PollOut, CancelOut, PermitSend, PermitDrop}
 use Rattle.model.specs.Calls.{step, openOut}
 use Rattle.model.proofs.TableLaws.{is-live, lowest-none}
 use Rattle.model.proofs.TableLaws.{of-le}
-use Rattle.model.proofs.Leaves.{trySend-dead, trySend-gone, trySend-full, trySend-sent, tryRes-dead, tryRes-gone, tryRes-full, tryRes-given}
 use Rattle.model.proofs.Leaves.{openOut-dead, openOut-full, openOut-given, pollOut-dead, pollOut-gone, pollOut-granted, pollOut-room, pollOut-pending}
 use Rattle.model.proofs.Leaves.{cancelOut-dead, cancelOut-granted, cancelOut-other, permitSend-dead, permitSend-gone, permitSend-sent, permitDrop-dead, permitDrop-live}
 use Rattle.queue.specs.declared.Queue.{Queue}
 use Rattle.queue.specs.declared.What.{What}
-use Rattle.queue.specs.declared.What.the-variants.{Done, Given as WGiven, Pending, Full, Disconnected, NoHandle, NoRoom}
+use Rattle.queue.specs.declared.What.the-variants.{Done, Given as WGiven, Pending, Disconnected, NoHandle, NoRoom}
 use Rattle.queue.specs.declared.Answer.{Answer}
 use Rattle.queue.specs.declared.Turn.{Turn}
 use Rattle.queue.specs.Meaning.{queueOf, Shaped, Sound}
@@ -202,7 +202,7 @@ module _ (q : Queue) (s : Shaped q) where
           }
 
 -- ---- a permit's number is always to be had, so that completing is no refusal
-spare : (t : Table ℕ) → live t < size t → (n : ℕ) × (lowest t ≡ some n)
+pub spare : (t : Table ℕ) → live t < size t → (n : ℕ) × (lowest t ≡ some n)
 spare t h = by (lowest t) refl
   where
     by : (o : Option ℕ) → lowest t ≡ o → (n : ℕ) × (lowest t ≡ some n)
@@ -231,71 +231,12 @@ module _ (j : model.Job) (s : ℕ) (q after : model.Queue) (same : after .permit
           ap (λ (o : Option ℕ). ltb (model.giveOf o q (λ k. model.reply model.GIVEN (k ∷ []) [] [] (model.setPermits (put (q .permits) k s) after)) .ans .code) 20) (n .1)
       by (model.carrying v) = refl
 
--- ---- try_send
-module _ (q : Queue) (snd : Sound q) (s v : ℕ) (b : Bool) (e : b ≡ isLive (lookup (handlesOf (q .senders)) s)) where
-  pub send-dead : (a : Answer) → not b ≡ true → Says NoHandle [] [] a → Turned q (TrySend s v) a q
-  unfolding step
-  send-dead a d u = stays q (TrySend s v) NoHandle a snd u (sym (trySend-dead s v (queueOf q) (dead _ b e d)))
-
-  module _ (d : not b ≡ false) (n : ℕ) (f : n ≡ live (handlesOf (q .receivers))) where
-    pub send-gone : (a : Answer) → n ≡ 0 → Says (Disconnected (CValue v)) [] [] a → Turned q (TrySend s v) a q
-    unfolding step
-    send-gone a z u =
-        let l = alive _ b e d in
-        stays q (TrySend s v) (Disconnected (CValue v)) a snd u (sym (trySend-gone s v (queueOf q) (l .0) (l .1) (none-left (handlesOf (q .receivers)) n f z)))
-
-    module _ (z : n ≡ 0 → ⊥) where
-      pub send-full : (a : Answer) → q .free ≡ 0 → Says (Full (CValue v)) [] [] a → Turned q (TrySend s v) a q
-      unfolding step
-      send-full a g u =
-          let l = alive _ b e d in
-          stays q (TrySend s v) (Full (CValue v)) a snd u (sym (trySend-full s v (queueOf q) (l .0) (l .1) (some-left (handlesOf (q .receivers)) n f z) (eq-eqb (q .free) 0 g)))
-
-      pub send-done : (r : Turn) → (q .free ≡ 0 → ⊥) → Pushes v (withFree (q .free - 1) q) r → Turned q (TrySend s v) (r .answer) (r .queue)
-      unfolding step
-      send-done r g u =
-          let l = alive _ b e d in
-          does q (TrySend s v) _ r snd (u .does) refl (sym (trySend-sent s v (queueOf q) (l .0) (l .1) (some-left (handlesOf (q .receivers)) n f z) (ne-eqb (q .free) 0 g)))
-
 -- the ring has room where a slot is free
 pub room-free : (q : Queue) → Sound q → (n : ℕ) → n ≡ live (handlesOf (q .receivers)) → (n ≡ 0 → ⊥) → (q .free ≡ 0 → ⊥) → length (ring.values (q .values)) < 64
 room-free q snd n f z g =
     let i = kept q snd in
     let p : 0 < live (handlesOf (q .receivers)) = omega arith in
     omega (arith, i .account .room p, i .sizes .capacity)
-
-pub sound-free : (q : Queue) → Sound q → (x : ℕ) → Shaped (withFree x q)
-sound-free q snd x = shaped-free q (snd .shaped) x
-
--- ---- try_res
-module _ (q : Queue) (snd : Sound q) (s : ℕ) (b : Bool) (e : b ≡ isLive (lookup (handlesOf (q .senders)) s)) where
-  pub res-dead : (a : Answer) → not b ≡ true → Says NoHandle [] [] a → Turned q (TryRes s) a q
-  unfolding step
-  res-dead a d u = stays q (TryRes s) NoHandle a snd u (sym (tryRes-dead s (queueOf q) (dead _ b e d)))
-
-  module _ (d : not b ≡ false) (n : ℕ) (f : n ≡ live (handlesOf (q .receivers))) where
-    pub res-gone : (a : Answer) → n ≡ 0 → Says (Disconnected Nothing) [] [] a → Turned q (TryRes s) a q
-    unfolding step
-    res-gone a z u =
-        let l = alive _ b e d in
-        stays q (TryRes s) (Disconnected Nothing) a snd u (sym (tryRes-gone s (queueOf q) (l .0) (l .1) (none-left (handlesOf (q .receivers)) n f z)))
-
-    module _ (z : n ≡ 0 → ⊥) where
-      pub res-full : (a : Answer) → q .free ≡ 0 → Says (Full Nothing) [] [] a → Turned q (TryRes s) a q
-      unfolding step
-      res-full a g u =
-          let l = alive _ b e d in
-          stays q (TryRes s) (Full Nothing) a snd u (sym (tryRes-full s (queueOf q) (l .0) (l .1) (some-left (handlesOf (q .receivers)) n f z) (eq-eqb (q .free) 0 g)))
-
-      pub res-given : (r : Turn) → (q .free ≡ 0 → ⊥) → Completes Nothing s (withFree (q .free - 1) q) r → Turned q (TryRes s) (r .answer) (r .queue)
-      unfolding step
-      res-given r g u =
-          let l = alive _ b e d in
-          let i = kept q snd in
-          let h : live (permitsOf (q .permits)) < size (permitsOf (q .permits)) = omega (arith, i .account .fits, i .sizes .capacity, i .sizes .permits) in
-          does q (TryRes s) _ r snd (u .does) (complete-good model.bare s (queueOf q) (queueOf (withFree (q .free - 1) q)) refl h)
-          (complete-either model.bare s (queueOf q) (queueOf (withFree (q .free - 1) q)) refl h
-          ∙ sym (tryRes-given s (queueOf q) (l .0) (l .1) (some-left (handlesOf (q .receivers)) n f z) (ne-eqb (q .free) 0 g)))
 
 -- ---- open_out
 opening-is : (c : Cargo) (s : ℕ) (q : model.Queue) → step (opening c s) q ≡ openOut (carried c) s q

@@ -1,17 +1,19 @@
 -- THE STEPS INSIDE THE CALLS, by the definition's move of each name. Assumes nothing.
 use Prim.Native.Nat.{ℕ}
 use mathlib.Core.Path.{_≡_}
-use mathlib.Core.Bool.{Bool, not, _&&_}
+use mathlib.Core.Bool.{Bool, true, false, not, _&&_}
 use mathlib.Core.List.{List, [], _∷_}
 use lib.Dec.{eqb, ltb}
 use lib.ListN.{length}
 use Rattle.tables.specs.declared.Handles.{Handles}
-use Rattle.tables.specs.Meaning.{handlesOf}
+use Rattle.tables.specs.declared.Number.{Number}
+use Rattle.tables.specs.declared.Number.the-variants.{NoRoom as NoNumber, Given as GivenNo}
+use Rattle.tables.specs.Meaning.{handlesOf, isLive}
 use Rattle.side.specs.declared.Cargo.{Cargo}
 use Rattle.side.specs.declared.Cargo.the-variants.{Nothing, Value as CValue}
 use Rattle.side.specs.declared.OptToken.{OptToken}
 use Rattle.side.specs.Meaning.{carried, tokenList}
-use Rattle.model.specs.Table.{blank, live}
+use Rattle.model.specs.Table.{blank, lookup, live, if_then_else_}
 use Rattle.model.specs.Side as side
 use Rattle.model.specs.Queue as model
 use Rattle.model.specs.declared.Call.{Call}
@@ -19,6 +21,7 @@ use Rattle.model.specs.declared.Call.the-variants.{Reserve, Send}
 use Rattle.queue.specs.declared.Queue.{Queue}
 use Rattle.queue.specs.declared.Counts.{Counts}
 use Rattle.queue.specs.declared.What.{What}
+use Rattle.queue.specs.declared.What.the-variants.{Done, Discarded, Value as WValue, Given as WGiven, Pending, Status as WStatus, Full, Empty, Disconnected, BadCapacity, NoHandle, InUse, NoRoom}
 use Rattle.queue.specs.declared.Answer.{Answer}
 use Rattle.queue.specs.declared.Turn.{Turn}
 use Rattle.queue.specs.Meaning.{queueOf, Shaped}
@@ -70,6 +73,34 @@ ready st free = eqb (side.waits st) 0 && not (eqb free 0)
 -- a cancelled operation at this stage passes its notice on
 abbrev pub passes : side.Stage → ℕ → ℕ → Bool
 passes st left queued = eqb (side.isCalled st) 1 && (not (eqb left 0) && ltb 0 queued)
+
+-- an answer that nothing stopped
+abbrev pub isDone : What → Bool
+isDone Done = true
+isDone (Discarded n) = false
+isDone (WValue v) = false
+isDone (WGiven n) = false
+isDone Pending = false
+isDone (WStatus s) = false
+isDone (Full c) = false
+isDone Empty = false
+isDone (Disconnected c) = false
+isDone BadCapacity = false
+isDone NoHandle = false
+isDone InUse = false
+isDone NoRoom = false
+
+-- ---- what a try-send or a try-res of the sender s answers, by the definition's tests; c is what goes back where it does not go through
+abbrev pub tried : Cargo → Bool → Bool → Bool → What
+tried c known gone full = if known then (if gone then Disconnected c else (if full then Full c else Done)) else NoHandle
+
+unfoldable pub sends : Cargo → ℕ → model.Queue → What
+sends c s q = tried c (isLive (lookup (q .senders) s)) (model.noReceiver q) (model.noFree q)
+
+-- ---- the answer to a call that asks for a number
+abbrev pub givenBy : Number → What
+givenBy NoNumber = NoRoom
+givenBy (GivenNo n) = WGiven n
 
 -- ---- which call opens an operation with this cargo
 abbrev pub opening : Cargo → ℕ → Call

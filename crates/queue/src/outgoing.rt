@@ -21,7 +21,7 @@ ghost use Rattle.side.specs.Calls.{Sees};
 ghost use Rattle.model.specs.declared.Call.the-variants.{TrySend, TryRes, Reserve, Send, PollOut, CancelOut, PermitSend, PermitDrop};
 ghost use Rattle.queue.specs.Meaning.{queueOf, Shaped, Sound};
 ghost use Rattle.queue.specs.Promise.{Turned};
-ghost use Rattle.queue.specs.Steps.{Notifies, Pushes, Releases, Completes, opening, ready};
+ghost use Rattle.queue.specs.Steps.{Notifies, Pushes, Releases, Completes, opening, ready, isDone, sends, givenBy};
 
 // May an operation at this stage take a free slot? Not one that waits in line.
 fn is_ready(stage: Stage, free: u32) -> bool
@@ -32,6 +32,37 @@ fn is_ready(stage: Stage, free: u32) -> bool
         Stage::Idle => free != 0,
         Stage::Called => free != 0,
         Stage::Void => free != 0,
+    }
+}
+
+// Did nothing stop the call? Only then is the queue changed.
+fn is_done(what: What) -> bool
+    ensures { λ r. ⌜ r ≡ isDone what ⌝ }
+{
+    match what {
+        What::Done => true,
+        What::Discarded(_) => false,
+        What::Value(_) => false,
+        What::Given(_) => false,
+        What::Pending => false,
+        What::Status(_) => false,
+        What::Full(_) => false,
+        What::Empty => false,
+        What::Disconnected(_) => false,
+        What::BadCapacity => false,
+        What::NoHandle => false,
+        What::InUse => false,
+        What::NoRoom => false,
+    }
+}
+
+// The answer to a call that asks for a number.
+fn given(number: Number) -> What
+    ensures { λ r. ⌜ r ≡ givenBy number ⌝ }
+{
+    match number {
+        Number::NoRoom => What::NoRoom,
+        Number::Given(n) => What::Given(n),
     }
 }
 
@@ -109,37 +140,51 @@ impl Queue {
         }
     }
 
+    // What a try-send or a try-res of this sender answers: Done, or why not. `cargo` is what goes back where it is not sent.
+    fn sendable(self, s: u32, cargo: Cargo) -> What
+        requires { ⌜ Shaped self ⌝ }
+        ensures { λ r. ⌜ r ≡ sends cargo s (queueOf self) ⌝ }
+    {
+        let senders = self.senders;
+        if senders.has(s) {
+            let receivers = self.receivers;
+            let left = receivers.count();
+            if left == 0 {
+                return What::Disconnected(cargo);
+            }
+            let free = self.free;
+            if free == 0 {
+                return What::Full(cargo);
+            }
+            return What::Done;
+        }
+        What::NoHandle
+    }
+
+    // Decided first, changed in place, put together once: so the record is copied once into `self` and once into the answer.
     pub fn try_send(mut self, s: u32, v: u32) -> Turn
         requires { ⌜ Sound self ⌝ }
         ensures { λ r. ⌜ Turned self (TrySend s v) (r .answer) (r .queue) ⌝ }
     {
-        let senders = self.senders;
-        if !senders.has(s) {
-            let answer = plain(What::NoHandle);
-            return Turn {
-                answer: answer,
-                queue: self,
-            };
+        let what = self.sendable(s, Cargo::Value(v));
+        let mut woken = Woken::Nobody;
+        if is_done(what) {
+            self.free = self.free - 1;
+            let values = self.values;
+            self.values = values.push_back(v);
+            let ins = self.ins;
+            if ins.line_is_empty() {} else {
+                let called = ins.call_first();
+                woken = called.woken;
+                let side = called.side;
+                self.ins = side;
+            }
         }
-        let receivers = self.receivers;
-        let left = receivers.count();
-        if left == 0 {
-            let answer = plain(What::Disconnected(Cargo::Value(v)));
-            return Turn {
-                answer: answer,
-                queue: self,
-            };
+        let answer = say(what, woken, OptToken::NoToken);
+        Turn {
+            answer: answer,
+            queue: self,
         }
-        let free = self.free;
-        if free == 0 {
-            let answer = plain(What::Full(Cargo::Value(v)));
-            return Turn {
-                answer: answer,
-                queue: self,
-            };
-        }
-        self.free = free - 1;
-        self.push(v)
     }
 
     // An outgoing operation that has its slot in hand, and is gone from its side already, ends: a reserve with a permit of its sender, a send with
@@ -177,38 +222,27 @@ impl Queue {
         }
     }
 
+    // A permit's number is always to be had where a slot is free.
     pub fn try_res(mut self, s: u32) -> Turn
         requires { ⌜ Sound self ⌝ }
         ensures { λ r. ⌜ Turned self (TryRes s) (r .answer) (r .queue) ⌝ }
     {
-        let senders = self.senders;
-        if !senders.has(s) {
-            let answer = plain(What::NoHandle);
-            return Turn {
-                answer: answer,
-                queue: self,
-            };
+        let mut what = self.sendable(s, Cargo::Nothing);
+        if is_done(what) {
+            self.free = self.free - 1;
+            let owner = s as u8;
+            let permits = self.permits;
+            let opened = permits.open(owner);
+            let number = opened.number;
+            let table = opened.permits;
+            self.permits = table;
+            what = given(number);
         }
-        let receivers = self.receivers;
-        let left = receivers.count();
-        if left == 0 {
-            let answer = plain(What::Disconnected(Cargo::Nothing));
-            return Turn {
-                answer: answer,
-                queue: self,
-            };
+        let answer = plain(what);
+        Turn {
+            answer: answer,
+            queue: self,
         }
-        let free = self.free;
-        if free == 0 {
-            let answer = plain(What::Full(Cargo::Nothing));
-            return Turn {
-                answer: answer,
-                queue: self,
-            };
-        }
-        self.free = free - 1;
-        let owner = s as u8;
-        self.complete(Cargo::Nothing, owner)
     }
 
     // A reserve or a send is opened, by what it carries.
@@ -356,39 +390,63 @@ impl Queue {
         ensures { λ r. ⌜ Turned self (PermitSend p v) (r .answer) (r .queue) ⌝ }
     {
         let permits = self.permits;
-        if !permits.has(p) {
-            let answer = plain(What::NoHandle);
-            return Turn {
-                answer: answer,
-                queue: self,
-            };
+        let mut what = What::NoHandle;
+        let mut woken = Woken::Nobody;
+        if permits.has(p) {
+            self.permits = permits.close(p);
+            let receivers = self.receivers;
+            let left = receivers.count();
+            if left == 0 {
+                what = What::Disconnected(Cargo::Value(v));
+            } else {
+                what = What::Done;
+                let values = self.values;
+                self.values = values.push_back(v);
+                let ins = self.ins;
+                if ins.line_is_empty() {} else {
+                    let called = ins.call_first();
+                    woken = called.woken;
+                    let side = called.side;
+                    self.ins = side;
+                }
+            }
         }
-        self.permits = permits.close(p);
-        let receivers = self.receivers;
-        let left = receivers.count();
-        if left == 0 {
-            let answer = plain(What::Disconnected(Cargo::Value(v)));
-            return Turn {
-                answer: answer,
-                queue: self,
-            };
+        let answer = say(what, woken, OptToken::NoToken);
+        Turn {
+            answer: answer,
+            queue: self,
         }
-        self.push(v)
     }
 
+    // The permit's slot goes to the first sender in line, else to the free room; after the last receiver to nobody.
     pub fn permit_drop(mut self, p: u32) -> Turn
         requires { ⌜ Sound self ⌝ }
         ensures { λ r. ⌜ Turned self (PermitDrop p) (r .answer) (r .queue) ⌝ }
     {
         let permits = self.permits;
-        if !permits.has(p) {
-            let answer = plain(What::NoHandle);
-            return Turn {
-                answer: answer,
-                queue: self,
-            };
+        let mut what = What::NoHandle;
+        let mut woken = Woken::Nobody;
+        if permits.has(p) {
+            what = What::Done;
+            self.permits = permits.close(p);
+            let receivers = self.receivers;
+            let left = receivers.count();
+            if left == 0 {} else {
+                let outs = self.outs;
+                if outs.line_is_empty() {
+                    self.free = self.free + 1;
+                } else {
+                    let called = outs.call_first();
+                    woken = called.woken;
+                    let side = called.side;
+                    self.outs = side;
+                }
+            }
         }
-        self.permits = permits.close(p);
-        self.release(What::Done, OptToken::NoToken)
+        let answer = say(what, woken, OptToken::NoToken);
+        Turn {
+            answer: answer,
+            queue: self,
+        }
     }
 }

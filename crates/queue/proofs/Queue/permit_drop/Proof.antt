@@ -1,7 +1,8 @@
--- `queue::Queue::permit_drop` meets its contract.
+-- `queue::Queue::permit_drop` meets its contract. Its arms meet before the one exit: no receiver, nobody waits, the first in line is called, no such permit.
 -- Assumes nothing.
-use Rattle.queue.proofs.Sending.{drop-dead, drop-done, shaped-closed}
+use mathlib.Core.Logic.{⊎-elim}
 use Rattle.queue.proofs.Settled.{free-small}
+use Rattle.queue.proofs.Sent.{dropped-not, dropped-gone, dropped-free, dropped-called}
 use borrow.Author.Needs.{needs}
 use Rattle.queue.proofs.Queue.permit_drop.Statement.{statement}
 use Rattle.queue.proofs.Queue.permit_drop.Tie as tie
@@ -9,28 +10,38 @@ use Rattle.queue.proofs.Queue.permit_drop.Tie as tie
 has-requires : tie.Need-has-requires
 has-requires c κs = search needs
 
-plain-requires : tie.Need-plain-requires
-plain-requires c κs = search needs
-
-returns : tie.Need-returns
-returns c = search drop-dead
-
 close-requires : tie.Need-close-requires
 close-requires c κs = search needs
 
-release-requires : tie.Need-release-requires
-release-requires c κs = search (free-small, shaped-closed)
+count-requires : tie.Need-count-requires
+count-requires c κs = search needs
 
-returns-2 : tie.Need-returns-2
-returns-2 c = search drop-done
+line-is-empty-requires : tie.Need-line-is-empty-requires
+line-is-empty-requires c κs = search needs
+
+add-self : tie.Need-add-self
+add-self c = let h = free-small _ (c .before .before .before .before .before .before .before .before .before .before .before .pre) in search needs
+
+call-first-requires : tie.Need-call-first-requires
+call-first-requires c κs = search needs
+
+say-requires : tie.Need-say-requires
+say-requires c κs = search needs
+
+returns : tie.Need-returns
+returns c =
+    ⊎-elim (λ w. search dropped-gone) (λ v. ⊎-elim (λ w. search dropped-free) (λ i. ⊎-elim (λ w. search dropped-called) (λ w. search dropped-not) i) v)
+    (c .before .if1 .came)
 
 pub permit-drop-spec : {M : Type 1} → statement M
 permit-drop-spec =
     tie.close
     (tie.spec
     has-requires
-    plain-requires
-    returns
     close-requires
-    release-requires
-    returns-2)
+    count-requires
+    line-is-empty-requires
+    add-self
+    call-first-requires
+    say-requires
+    returns)

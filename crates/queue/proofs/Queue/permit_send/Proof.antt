@@ -1,6 +1,7 @@
--- `queue::Queue::permit_send` meets its contract.
+-- `queue::Queue::permit_send` meets its contract. Its arms meet before the one exit: no receiver, sent and nobody waits, sent and the first in line is called, no such permit.
 -- Assumes nothing.
-use Rattle.queue.proofs.Sending.{permit-dead, permit-gone, permit-sent, room-permit, shaped-closed}
+use mathlib.Core.Logic.{⊎-elim}
+use Rattle.queue.proofs.Sent.{room-redeemed, redeemed-not, redeemed-gone, redeemed-alone, redeemed-called}
 use borrow.Author.Needs.{needs}
 use Rattle.queue.proofs.Queue.permit_send.Statement.{statement}
 use Rattle.queue.proofs.Queue.permit_send.Tie as tie
@@ -8,40 +9,38 @@ use Rattle.queue.proofs.Queue.permit_send.Tie as tie
 has-requires : tie.Need-has-requires
 has-requires c κs = search needs
 
-plain-requires : tie.Need-plain-requires
-plain-requires c κs = search needs
-
-returns : tie.Need-returns
-returns c = search permit-dead
-
 close-requires : tie.Need-close-requires
 close-requires c κs = search needs
 
 count-requires : tie.Need-count-requires
 count-requires c κs = search needs
 
-plain-requires-2 : tie.Need-plain-requires-2
-plain-requires-2 c κs = search needs
+push-back-requires : tie.Need-push-back-requires
+push-back-requires c κs = search room-redeemed
 
-returns-2 : tie.Need-returns-2
-returns-2 c = search permit-gone
+line-is-empty-requires : tie.Need-line-is-empty-requires
+line-is-empty-requires c κs = search needs
 
-push-requires : tie.Need-push-requires
-push-requires c κs = search (room-permit, shaped-closed)
+call-first-requires : tie.Need-call-first-requires
+call-first-requires c κs = search needs
 
-returns-3 : tie.Need-returns-3
-returns-3 c = search permit-sent
+say-requires : tie.Need-say-requires
+say-requires c κs = search needs
+
+returns : tie.Need-returns
+returns c =
+    ⊎-elim (λ w. search redeemed-gone) (λ v. ⊎-elim (λ w. search redeemed-alone) (λ i. ⊎-elim (λ w. search redeemed-called) (λ w. search redeemed-not) i) v)
+    (c .before .if1 .came)
 
 pub permit-send-spec : {M : Type 1} → statement M
 permit-send-spec =
     tie.close
     (tie.spec
     has-requires
-    plain-requires
-    returns
     close-requires
     count-requires
-    plain-requires-2
-    returns-2
-    push-requires
-    returns-3)
+    push-back-requires
+    line-is-empty-requires
+    call-first-requires
+    say-requires
+    returns)

@@ -1,55 +1,46 @@
--- `queue::Queue::try_send` meets its contract. No such sender; no receiver; full; sent.
+-- `queue::Queue::try_send` meets its contract. Its arms meet before the one exit: sent and nobody waits, sent and the first in line is called, not sent.
 -- Assumes nothing.
-use Rattle.queue.proofs.Sending.{send-dead, send-gone, send-full, send-done, room-free, sound-free}
+use mathlib.Core.Logic.{⊎-elim}
+use Rattle.queue.proofs.Sent.{free-sent, room-sent, sent-not, sent-alone, sent-called}
 use borrow.Author.Needs.{needs}
 use Rattle.queue.proofs.Queue.try_send.Statement.{statement}
 use Rattle.queue.proofs.Queue.try_send.Tie as tie
 
-has-requires : tie.Need-has-requires
-has-requires c κs = search needs
+sendable-requires : tie.Need-sendable-requires
+sendable-requires c κs = search needs
 
-plain-requires : tie.Need-plain-requires
-plain-requires c κs = search needs
-
-returns : tie.Need-returns
-returns c = search send-dead
-
-count-requires : tie.Need-count-requires
-count-requires c κs = search needs
-
-plain-requires-2 : tie.Need-plain-requires-2
-plain-requires-2 c κs = search needs
-
-returns-2 : tie.Need-returns-2
-returns-2 c = search send-gone
-
-plain-requires-3 : tie.Need-plain-requires-3
-plain-requires-3 c κs = search needs
-
-returns-3 : tie.Need-returns-3
-returns-3 c = search send-full
+is-done-requires : tie.Need-is-done-requires
+is-done-requires c κs = search needs
 
 sub-self : tie.Need-sub-self
-sub-self c = search needs
+sub-self c = search free-sent
 
-push-requires : tie.Need-push-requires
-push-requires c κs = search (room-free, sound-free)
+push-back-requires : tie.Need-push-back-requires
+push-back-requires c κs = search room-sent
 
-returns-4 : tie.Need-returns-4
-returns-4 c = search send-done
+line-is-empty-requires : tie.Need-line-is-empty-requires
+line-is-empty-requires c κs = search needs
+
+call-first-requires : tie.Need-call-first-requires
+call-first-requires c κs = search needs
+
+say-requires : tie.Need-say-requires
+say-requires c κs = search needs
+
+returns : tie.Need-returns
+returns c =
+    ⊎-elim (λ w. search sent-alone) (λ v. ⊎-elim (λ w. search sent-called) (λ w. search sent-not) v)
+    (c .before .if1 .came)
 
 pub try-send-spec : {M : Type 1} → statement M
 try-send-spec =
     tie.close
     (tie.spec
-    has-requires
-    plain-requires
-    returns
-    count-requires
-    plain-requires-2
-    returns-2
-    plain-requires-3
-    returns-3
+    sendable-requires
+    is-done-requires
     sub-self
-    push-requires
-    returns-4)
+    push-back-requires
+    line-is-empty-requires
+    call-first-requires
+    say-requires
+    returns)
