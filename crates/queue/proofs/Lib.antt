@@ -2,6 +2,7 @@ pub mod Settled
 pub mod Sending
 pub mod Sent
 pub mod Receiving
+pub mod Taken
 pub mod Handing
 pub mod Making
 pub mod Histories

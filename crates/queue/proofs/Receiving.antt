@@ -62,18 +62,18 @@ module _ (q : Queue) (snd : Sound q) (s : ℕ) (b : Bool) (e : b ≡ isLive (loo
         ∙ sym (openIn-given s (queueOf q) (l .0) n (l .1) (sym (k .number) ∙ ap numbered f)))
 
 -- ---- the first value
-first-value : (l : List ℕ) (v : ℕ) → FValue v ≡ ring.first l → l ≡ v ∷ ring.rest l
+pub first-value : (l : List ℕ) (v : ℕ) → FValue v ≡ ring.first l → l ≡ v ∷ ring.rest l
 unfolding ring.first ring.rest
 first-value [] v e = let z : _≡_ {A = ℕ} 0 1 = cc in absurd (omega arith)
 first-value (x ∷ l) v e = let z : v ≡ x = cc in ap (λ (y : ℕ). y ∷ l) (sym z)
 
-first-nothing : (l : List ℕ) → FNothing ≡ ring.first l → l ≡ []
+pub first-nothing : (l : List ℕ) → FNothing ≡ ring.first l → l ≡ []
 unfolding ring.first
 first-nothing [] e = refl
 first-nothing (x ∷ l) e = let z : _≡_ {A = ℕ} 0 1 = cc in absurd (omega arith)
 
 -- what pop_front promises
-abbrev Pops : Queue → Popped → Type 0
+abbrev pub Pops : Queue → Popped → Type 0
 Pops q p = (p .front ≡ ring.first (ring.values (q .values))) × (ring.Sound (p .next)) × (ring.values (p .next) ≡ ring.rest (ring.values (q .values)))
 
 -- ---- try_recv

@@ -3,6 +3,7 @@ use Prim.Native.Nat.{ℕ}
 use mathlib.Core.Path.{_≡_}
 use mathlib.Core.Bool.{Bool, true, false, not, _&&_}
 use mathlib.Core.List.{List, [], _∷_}
+use mathlib.Core.Option.{Option, none, some}
 use lib.Dec.{eqb, ltb}
 use lib.ListN.{length}
 use Rattle.tables.specs.declared.Handles.{Handles}
@@ -66,7 +67,48 @@ silenced q = model.reply model.DONE [] (side.allTokens (q .ins)) [] (model.setIn
 pub record Silences (q : Queue) (r : Turn) : Type 0 where
   pub does : Does (silenced (queueOf q)) r
 
+-- ---- what receivers are told
+-- of these values, where the senders are gone or not: the first; or that none will ever come; else the answer given as `empty`
+abbrev pub takableOf : What → List ℕ → Bool → What
+takableOf empty [] gone = if gone then Disconnected Nothing else empty
+takableOf empty (v ∷ l) gone = WValue v
+
+abbrev pub takable : What → model.Queue → What
+takable empty q = takableOf empty (q .values) (model.noSender q)
+
+-- a try-recv by a receiver, which is live or not
+abbrev pub receivableOf : Option model.Mark → model.Queue → What
+receivableOf none q = NoHandle
+receivableOf (some a) q = takable Empty q
+
+abbrev pub receivable : ℕ → model.Queue → What
+receivable r q = receivableOf (lookup (q .receivers) r) q
+
+-- a poll-in of an operation, which is open or not; and the token that the operation keeps
+abbrev pub pollable : Option (side.Op model.Job) → model.Queue → What
+pollable none q = NoHandle
+pollable (some op) q = takable Pending q
+
+abbrev pub keptOf : Option (side.Op model.Job) → List ℕ
+keptOf none = []
+keptOf (some op) = side.kept (op .stage)
+
 -- ---- tests
+abbrev pub isValue : What → Bool
+isValue Done = false
+isValue (Discarded n) = false
+isValue (WValue v) = true
+isValue (WGiven n) = false
+isValue Pending = false
+isValue (WStatus s) = false
+isValue (Full c) = false
+isValue Empty = false
+isValue (Disconnected c) = false
+isValue BadCapacity = false
+isValue NoHandle = false
+isValue InUse = false
+isValue NoRoom = false
+
 abbrev pub ready : side.Stage → ℕ → Bool
 ready st free = eqb (side.waits st) 0 && not (eqb free 0)
 

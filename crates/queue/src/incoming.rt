@@ -6,20 +6,17 @@ use crate::says::plain;
 use crate::says::say;
 use ring::Front;
 use side::Cargo;
-use side::Entry;
 use side::OptToken;
 use side::Stage;
 use side::View;
 use side::Woken;
 use tables::Number;
 ghost use mathlib.Core.Path.{_≡_};
-ghost use Rattle.side.specs.declared.View.the-variants.{Found};
-ghost use Rattle.side.specs.Meaning.{stageOf};
-ghost use Rattle.side.specs.Calls.{Sees};
+ghost use Rattle.side.specs.Meaning.{stageOf, viewed, tokenList};
 ghost use Rattle.model.specs.declared.Call.the-variants.{Recv, TryRecv, PollIn, CancelIn};
-ghost use Rattle.queue.specs.Meaning.{Sound};
+ghost use Rattle.queue.specs.Meaning.{queueOf, Sound};
 ghost use Rattle.queue.specs.Promise.{Turned};
-ghost use Rattle.queue.specs.Steps.{passes};
+ghost use Rattle.queue.specs.Steps.{isValue, takable, receivable, pollable, keptOf, passes};
 
 // Does a cancelled operation at this stage pass its notice on? With these senders left and these values queued.
 fn passes_on(stage: Stage, left: u32, queued: usize) -> bool
@@ -34,183 +31,225 @@ fn passes_on(stage: Stage, left: u32, queued: usize) -> bool
     false
 }
 
+// The token that an operation keeps, if it is open.
+fn kept_of(view: View) -> OptToken
+    ensures { λ r. ⌜ tokenList r ≡ keptOf (viewed view) ⌝ }
+{
+    match view {
+        View::Missing => OptToken::NoToken,
+        View::Found(op) => {
+            let stage = op.stage;
+            stage.kept()
+        }
+    }
+}
+
+// Is the answer a value?
+fn is_value(what: What) -> bool
+    ensures { λ r. ⌜ r ≡ isValue what ⌝ }
+{
+    match what {
+        What::Done => false,
+        What::Discarded(_) => false,
+        What::Value(_) => true,
+        What::Given(_) => false,
+        What::Pending => false,
+        What::Status(_) => false,
+        What::Full(_) => false,
+        What::Empty => false,
+        What::Disconnected(_) => false,
+        What::BadCapacity => false,
+        What::NoHandle => false,
+        What::InUse => false,
+        What::NoRoom => false,
+    }
+}
+
 impl Queue {
     pub fn recv(mut self, r: u32) -> Turn
         requires { ⌜ Sound self ⌝ }
         ensures { λ x. ⌜ Turned self (Recv r) (x .answer) (x .queue) ⌝ }
     {
         let receivers = self.receivers;
-        if !receivers.has(r) {
-            let answer = plain(What::NoHandle);
-            return Turn {
-                answer: answer,
-                queue: self,
-            };
-        }
-        let ins = self.ins;
-        let owner = r as u8;
-        let opened = ins.open(owner, Cargo::Nothing);
-        let number = opened.number;
-        let side = opened.side;
-        match number {
-            Number::NoRoom => {
-                let answer = plain(What::NoRoom);
-                Turn {
-                    answer: answer,
-                    queue: self,
+        let mut what = What::NoHandle;
+        if receivers.has(r) {
+            let ins = self.ins;
+            let owner = r as u8;
+            let opened = ins.open(owner, Cargo::Nothing);
+            let number = opened.number;
+            match number {
+                Number::NoRoom => {
+                    what = What::NoRoom;
                 }
-            }
-            Number::Given(n) => {
-                self.ins = side;
-                let answer = plain(What::Given(n));
-                Turn {
-                    answer: answer,
-                    queue: self,
+                Number::Given(n) => {
+                    what = What::Given(n);
+                    let side = opened.side;
+                    self.ins = side;
                 }
             }
         }
-    }
-
-    pub fn try_recv(mut self, r: u32) -> Turn
-        requires { ⌜ Sound self ⌝ }
-        ensures { λ x. ⌜ Turned self (TryRecv r) (x .answer) (x .queue) ⌝ }
-    {
-        let receivers = self.receivers;
-        if !receivers.has(r) {
-            let answer = plain(What::NoHandle);
-            return Turn {
-                answer: answer,
-                queue: self,
-            };
-        }
-        let values = self.values;
-        let popped = values.pop_front();
-        let front = popped.front;
-        match front {
-            Front::Value(v) => {
-                let next = popped.next;
-                self.values = next;
-                self.release(What::Value(v), OptToken::NoToken)
-            }
-            Front::Nothing => {
-                let senders = self.senders;
-                let left = senders.count();
-                if left == 0 {
-                    let answer = plain(What::Disconnected(Cargo::Nothing));
-                    return Turn {
-                        answer: answer,
-                        queue: self,
-                    };
-                }
-                let answer = plain(What::Empty);
-                Turn {
-                    answer: answer,
-                    queue: self,
-                }
-            }
-        }
-    }
-
-    // poll-in of the operation n, which is open.
-    fn poll_opened(mut self, n: u32, token: u32, op: Entry) -> Turn
-        requires { ⌜ Sound self ⌝ }
-        requires { ⌜ Sees (self .ins) n (Found op) ⌝ }
-        ensures { λ r. ⌜ Turned self (PollIn n token) (r .answer) (r .queue) ⌝ }
-    {
-        let ins = self.ins;
-        let stage = op.stage;
-        let kept = stage.kept();
-        let values = self.values;
-        let popped = values.pop_front();
-        let front = popped.front;
-        match front {
-            Front::Value(v) => {
-                let next = popped.next;
-                self.values = next;
-                self.ins = ins.end(n);
-                self.release(What::Value(v), kept)
-            }
-            Front::Nothing => {
-                let senders = self.senders;
-                let left = senders.count();
-                if left == 0 {
-                    self.ins = ins.end(n);
-                    let answer = say(What::Disconnected(Cargo::Nothing), Woken::Nobody, kept);
-                    return Turn {
-                        answer: answer,
-                        queue: self,
-                    };
-                }
-                let pended = ins.pend(n, token);
-                let retired = pended.retired;
-                let side = pended.side;
-                self.ins = side;
-                let answer = say(What::Pending, Woken::Nobody, retired);
-                Turn {
-                    answer: answer,
-                    queue: self,
-                }
-            }
-        }
-    }
-
-    pub fn poll_in(self, n: u32, token: u32) -> Turn
-        requires { ⌜ Sound self ⌝ }
-        ensures { λ r. ⌜ Turned self (PollIn n token) (r .answer) (r .queue) ⌝ }
-    {
-        let ins = self.ins;
-        let view = ins.get(n);
-        match view {
-            View::Missing => {
-                let answer = plain(What::NoHandle);
-                Turn {
-                    answer: answer,
-                    queue: self,
-                }
-            }
-            View::Found(op) => self.poll_opened(n, token, op),
-        }
-    }
-
-    // cancel-in of the operation n, which is open.
-    fn cancel_opened(mut self, n: u32, op: Entry) -> Turn
-        requires { ⌜ Sound self ⌝ }
-        requires { ⌜ Sees (self .ins) n (Found op) ⌝ }
-        ensures { λ r. ⌜ Turned self (CancelIn n) (r .answer) (r .queue) ⌝ }
-    {
-        let stage = op.stage;
-        let senders = self.senders;
-        let left = senders.count();
-        let values = self.values;
-        let queued = values.len();
-        let ins = self.ins;
-        self.ins = ins.end(n);
-        if passes_on(stage, left, queued) {
-            return self.notify();
-        }
-        let kept = stage.kept();
-        let answer = say(What::Done, Woken::Nobody, kept);
+        let answer = plain(what);
         Turn {
             answer: answer,
             queue: self,
         }
     }
 
-    pub fn cancel_in(self, n: u32) -> Turn
+    // What there is to take: the first value; or that none will ever come; else the answer given as `empty`.
+    fn takable(self, empty: What) -> What
+        requires { ⌜ Sound self ⌝ }
+        ensures { λ x. ⌜ x ≡ takable empty (queueOf self) ⌝ }
+    {
+        let values = self.values;
+        let popped = values.pop_front();
+        let front = popped.front;
+        match front {
+            Front::Value(v) => What::Value(v),
+            Front::Nothing => {
+                let senders = self.senders;
+                let left = senders.count();
+                if left == 0 {
+                    return What::Disconnected(Cargo::Nothing);
+                }
+                empty
+            }
+        }
+    }
+
+    // What a try-recv of this receiver answers.
+    fn receivable(self, r: u32) -> What
+        requires { ⌜ Sound self ⌝ }
+        ensures { λ x. ⌜ x ≡ receivable r (queueOf self) ⌝ }
+    {
+        let receivers = self.receivers;
+        if receivers.has(r) {
+            return self.takable(What::Empty);
+        }
+        What::NoHandle
+    }
+
+    // Where there is a value to take, a receiver is left, so that its slot is the first waiting sender's or free.
+    pub fn try_recv(mut self, r: u32) -> Turn
+        requires { ⌜ Sound self ⌝ }
+        ensures { λ x. ⌜ Turned self (TryRecv r) (x .answer) (x .queue) ⌝ }
+    {
+        let what = self.receivable(r);
+        let mut woken = Woken::Nobody;
+        if is_value(what) {
+            let values = self.values;
+            let popped = values.pop_front();
+            let next = popped.next;
+            self.values = next;
+            let outs = self.outs;
+            if outs.line_is_empty() {
+                self.free = self.free + 1;
+            } else {
+                let called = outs.call_first();
+                woken = called.woken;
+                let side = called.side;
+                self.outs = side;
+            }
+        }
+        let answer = say(what, woken, OptToken::NoToken);
+        Turn {
+            answer: answer,
+            queue: self,
+        }
+    }
+
+    // What a poll-in answers of an operation that is open or not.
+    fn pollable(self, view: View) -> What
+        requires { ⌜ Sound self ⌝ }
+        ensures { λ x. ⌜ x ≡ pollable (viewed view) (queueOf self) ⌝ }
+    {
+        match view {
+            View::Missing => What::NoHandle,
+            View::Found(_) => self.takable(What::Pending),
+        }
+    }
+
+    pub fn poll_in(mut self, n: u32, token: u32) -> Turn
+        requires { ⌜ Sound self ⌝ }
+        ensures { λ r. ⌜ Turned self (PollIn n token) (r .answer) (r .queue) ⌝ }
+    {
+        let ins = self.ins;
+        let view = ins.get(n);
+        let what = self.pollable(view);
+        let mut retired = kept_of(view);
+        let mut woken = Woken::Nobody;
+        match what {
+            What::Value(_) => {
+                self.ins = ins.end(n);
+                let values = self.values;
+                let popped = values.pop_front();
+                let next = popped.next;
+                self.values = next;
+                let outs = self.outs;
+                if outs.line_is_empty() {
+                    self.free = self.free + 1;
+                } else {
+                    let called = outs.call_first();
+                    woken = called.woken;
+                    let side = called.side;
+                    self.outs = side;
+                }
+            }
+            What::Disconnected(_) => {
+                self.ins = ins.end(n);
+            }
+            What::Pending => {
+                let pended = ins.pend(n, token);
+                retired = pended.retired;
+                let side = pended.side;
+                self.ins = side;
+            }
+            _ => {}
+        }
+        let answer = say(what, woken, retired);
+        Turn {
+            answer: answer,
+            queue: self,
+        }
+    }
+
+    pub fn cancel_in(mut self, n: u32) -> Turn
         requires { ⌜ Sound self ⌝ }
         ensures { λ r. ⌜ Turned self (CancelIn n) (r .answer) (r .queue) ⌝ }
     {
         let ins = self.ins;
         let view = ins.get(n);
+        let mut what = What::NoHandle;
+        let mut woken = Woken::Nobody;
+        let mut retired = OptToken::NoToken;
         match view {
-            View::Missing => {
-                let answer = plain(What::NoHandle);
-                Turn {
-                    answer: answer,
-                    queue: self,
+            View::Missing => {}
+            View::Found(op) => {
+                let stage = op.stage;
+                let senders = self.senders;
+                let left = senders.count();
+                let values = self.values;
+                let queued = values.len();
+                what = What::Done;
+                let rest = ins.end(n);
+                if passes_on(stage, left, queued) {
+                    if rest.line_is_empty() {
+                        self.ins = rest;
+                    } else {
+                        let called = rest.call_first();
+                        woken = called.woken;
+                        let side = called.side;
+                        self.ins = side;
+                    }
+                } else {
+                    retired = stage.kept();
+                    self.ins = rest;
                 }
             }
-            View::Found(op) => self.cancel_opened(n, op),
+        }
+        let answer = say(what, woken, retired);
+        Turn {
+            answer: answer,
+            queue: self,
         }
     }
 }

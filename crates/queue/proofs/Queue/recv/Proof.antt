@@ -1,7 +1,7 @@
 -- `queue::Queue::recv` meets its contract.
 -- Assumes nothing.
-use Rattle.queue.proofs.Receiving.{recv-dead, recv-full, recv-given}
-use Rattle.queue.proofs.Settled.{owner-fits}
+use mathlib.Core.Logic.{⊎-elim}
+use Rattle.queue.proofs.Taken.{receiver-fits, opened-dead, opened-full, opened-given}
 use borrow.Author.Needs.{needs}
 use Rattle.queue.proofs.Queue.recv.Statement.{statement}
 use Rattle.queue.proofs.Queue.recv.Tie as tie
@@ -9,14 +9,8 @@ use Rattle.queue.proofs.Queue.recv.Tie as tie
 has-requires : tie.Need-has-requires
 has-requires c κs = search needs
 
-plain-requires : tie.Need-plain-requires
-plain-requires c κs = search needs
-
-returns : tie.Need-returns
-returns c = search recv-dead
-
 cast-owner : tie.Need-cast-owner
-cast-owner c = search owner-fits
+cast-owner c = receiver-fits _ _ _ (c .before .before .before .before .pre .shaped .receivers) (c .before .before .has .ensures) (c .before .if1 .taken)
 
 open-requires : tie.Need-open-requires
 open-requires c κs = search needs
@@ -24,33 +18,32 @@ open-requires c κs = search needs
 enum-told : tie.Need-enum-told
 enum-told c = search needs
 
-plain-requires-2 : tie.Need-plain-requires-2
-plain-requires-2 c κs = search needs
-
 enum-known-number : tie.Need-enum-known-number
 enum-known-number c = search needs
 
-plain-requires-3 : tie.Need-plain-requires-3
-plain-requires-3 c κs = search needs
+plain-requires : tie.Need-plain-requires
+plain-requires c κs = search needs
 
-returns-2 : tie.Need-returns-2
-returns-2 c = search recv-full
-
-returns-3 : tie.Need-returns-3
-returns-3 c = search recv-given
+returns : tie.Need-returns
+returns c =
+    let s = c .before .before .before .before in
+    let has = c .before .before .has .ensures in
+    let says = c .plain .ensures in
+    ⊎-elim
+    (λ w. opened-full _ (s .pre) _ _ has _ _ says _ (w .0 .taken) _ (w .2 .ensures) (w .4 .given .1) (w .5) (w .6))
+    (⊎-elim
+    (λ w. opened-given _ (s .pre) _ _ has _ _ says _ (w .0 .taken) _ (w .2 .ensures) _ (w .4 .given .1) (w .7) (w .8))
+    (λ w. opened-dead _ (s .pre) _ _ has _ _ says _ (w .0 .left) (w .1) (w .2)))
+    (c .before .if1 .came)
 
 pub recv-spec : {M : Type 1} → statement M
 recv-spec =
     tie.close
     (tie.spec
     has-requires
-    plain-requires
-    returns
     cast-owner
     open-requires
     enum-told
-    plain-requires-2
     enum-known-number
-    plain-requires-3
-    returns-2
-    returns-3)
+    plain-requires
+    returns)

@@ -1,64 +1,54 @@
 -- `queue::Queue::try_recv` meets its contract.
 -- Assumes nothing.
-use Rattle.queue.proofs.Receiving.{take-dead, take-value, take-gone, take-empty, shaped-popped}
-use Rattle.queue.proofs.Settled.{free-small}
+use mathlib.Core.Logic.{⊎-elim}
+use Rattle.queue.proofs.Taken.{slot-fits, took-free, took-granted, took-nothing}
 use borrow.Author.Needs.{needs}
 use Rattle.queue.proofs.Queue.try_recv.Statement.{statement}
 use Rattle.queue.proofs.Queue.try_recv.Tie as tie
 
-has-requires : tie.Need-has-requires
-has-requires c κs = search needs
+receivable-requires : tie.Need-receivable-requires
+receivable-requires c κs = search needs
 
-plain-requires : tie.Need-plain-requires
-plain-requires c κs = search needs
-
-returns : tie.Need-returns
-returns c = search take-dead
+is-value-requires : tie.Need-is-value-requires
+is-value-requires c κs = search needs
 
 pop-front-requires : tie.Need-pop-front-requires
 pop-front-requires c κs = search needs
 
-enum-known-front : tie.Need-enum-known-front
-enum-known-front c = search needs
+line-is-empty-requires : tie.Need-line-is-empty-requires
+line-is-empty-requires c κs = search needs
 
-release-requires : tie.Need-release-requires
-release-requires c κs = search (free-small, shaped-popped)
+add-self : tie.Need-add-self
+add-self c = slot-fits _ (c .before .before .before .before .before .before .before .before .before .before .pre)
 
-enum-told : tie.Need-enum-told
-enum-told c = search needs
+call-first-requires : tie.Need-call-first-requires
+call-first-requires c κs = search needs
 
-count-requires : tie.Need-count-requires
-count-requires c κs = search needs
+say-requires : tie.Need-say-requires
+say-requires c κs = search needs
 
-plain-requires-2 : tie.Need-plain-requires-2
-plain-requires-2 c κs = search needs
-
-returns-2 : tie.Need-returns-2
-returns-2 c = search take-gone
-
-plain-requires-3 : tie.Need-plain-requires-3
-plain-requires-3 c κs = search needs
-
-returns-3 : tie.Need-returns-3
-returns-3 c = search take-value
-
-returns-4 : tie.Need-returns-4
-returns-4 c = search take-empty
+returns : tie.Need-returns
+returns c =
+    let s = c .before .before .before .before in
+    let told = c .before .before .before .receivable .ensures in
+    let asked = c .before .before .is-value .ensures in
+    let says = c .say .ensures in
+    ⊎-elim
+    (λ w. took-free _ (s .pre) _ _ told _ asked _ _ says _ (w .0 .taken) _ (w .2 .ensures) _ (w .5 .ensures) (w .6 .taken) (w .8) (w .9))
+    (⊎-elim
+    (λ w. took-granted _ (s .pre) _ _ told _ asked _ _ says _ (w .0 .taken) _ (w .2 .ensures) _ (w .5 .ensures) _ (w .6 .left) (w .7 .ensures) (w .9) (w .10))
+    (λ w. took-nothing _ (s .pre) _ _ told _ asked _ _ says _ (w .0 .left) (w .1) (w .2)))
+    (c .before .if1 .came)
 
 pub try-recv-spec : {M : Type 1} → statement M
 try-recv-spec =
     tie.close
     (tie.spec
-    has-requires
-    plain-requires
-    returns
+    receivable-requires
+    is-value-requires
     pop-front-requires
-    enum-known-front
-    release-requires
-    enum-told
-    count-requires
-    plain-requires-2
-    returns-2
-    plain-requires-3
-    returns-3
-    returns-4)
+    line-is-empty-requires
+    add-self
+    call-first-requires
+    say-requires
+    returns)

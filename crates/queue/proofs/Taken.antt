@@ -1,0 +1,369 @@
+-- The one exit of what receivers do, by the way that led there. Assumes nothing.
+use Prim.Native.Nat.{ℕ, _+_}
+use mathlib.Core.Path.{_≡_, refl, sym, ap, ap₂, _∙_, subst}
+use mathlib.Core.Bool.{Bool, true, false, not}
+use mathlib.Core.List.{List, [], _∷_}
+use mathlib.Core.Option.{Option, none, some}
+use native.Mathlib.Omega.{arith}
+use lib.ListN.{length}
+use lib.Dec.{T}
+use mir.Val.{Fits, hasKey}
+use mir.Syntax.{w8, w32}
+use types.Run.{OneOf, miss}
+use denote.Enum.Declared.{tagOf}
+use Rattle.ring.specs.declared.Front.the-variants.{Value as FValue, Nothing as FNothing}
+use Rattle.ring.specs.declared.Popped.{Popped}
+use Rattle.ring.specs.Values as ring
+use Rattle.waitlist.specs.View.{isNil}
+use Rattle.tables.specs.declared.Handles.{Handles}
+use Rattle.tables.specs.declared.Number.the-variants.{NoRoom as NoNumber, Given as GivenNo}
+use Rattle.tables.specs.Meaning.{handlesOf, isLive, HandlesSound}
+use Rattle.side.specs.declared.Side.{Side}
+use Rattle.side.specs.declared.Cargo.{Cargo}
+use Rattle.side.specs.declared.Cargo.the-variants.{Nothing}
+use Rattle.side.specs.declared.OptToken.{OptToken}
+use Rattle.side.specs.declared.OptToken.the-variants.{NoToken}
+use Rattle.side.specs.declared.Woken.{Woken}
+use Rattle.side.specs.declared.Woken.the-variants.{Nobody as NoOne}
+use Rattle.side.specs.declared.Entry.{Entry}
+use Rattle.side.specs.declared.View.{View}
+use Rattle.side.specs.declared.View.the-variants.{Missing, Found}
+use Rattle.side.specs.declared.CalledOne.{CalledOne}
+use Rattle.side.specs.declared.Opened.{Opened}
+use Rattle.side.specs.declared.Pended.{Pended}
+use Rattle.side.specs.Meaning.{Deed, sideOf, stageOf, viewed, tokenList, wokenTokens}
+use Rattle.side.specs.Calls.{Open, Sees, Opens, Ends, Pends, CallsOne}
+use Rattle.model.specs.Table.{lookup, live}
+use Rattle.model.specs.Side as side
+use Rattle.model.specs.Queue as model
+use Rattle.model.specs.declared.Call.{Call}
+use Rattle.model.specs.declared.Call.the-variants.{Recv, TryRecv, PollIn, CancelIn}
+use Rattle.model.specs.Calls.{step, tryRecv}
+use Rattle.model.proofs.Leaves.{tryRecv-dead, tryRecv-value, tryRecv-gone, tryRecv-empty, pollIn-dead, pollIn-value, pollIn-gone, pollIn-pending}
+use Rattle.queue.specs.declared.Queue.{Queue}
+use Rattle.queue.specs.declared.What.{What}
+use Rattle.queue.specs.declared.What.the-variants.{Done, Value as WValue, Given as WGiven, Pending, Empty, Disconnected, NoHandle, NoRoom}
+use Rattle.queue.specs.declared.Answer.{Answer}
+use Rattle.queue.specs.declared.Turn.{Turn}
+use Rattle.queue.specs.Meaning.{queueOf, Shaped, Sound}
+use Rattle.queue.specs.Answers.{codeOf, fieldOf}
+use Rattle.queue.specs.Promise.{Turned}
+use Rattle.queue.specs.Steps.{Says, Notifies, Releases, releasing, takable, takableOf, receivable, receivableOf, pollable, keptOf, isValue, passes}
+use Rattle.queue.proofs.Settled.{kept, stays, moves, does, withValues, withFree, withOuts, withIns, shaped-values, shaped-ins, dead, alive, none-left, some-left, owner-fits, free-small, found-open}
+use Rattle.queue.proofs.Sending.{notify-nobody, notify-one, release-free, release-grant, sees-found}
+use Rattle.queue.proofs.Receiving.{Pops, first-value, first-nothing, recv-dead, recv-full, recv-given, leave-in-dead, leave-in-passed, leave-in-other}
+use Rattle.queue.proofs.What.{the-type}
+
+-- ---- where ways meet: the same said and turned under other names
+pub turned-as : (q : Queue) (c : Call) (a : Answer) (q₁ q₂ : Queue) → q₂ ≡ q₁ → Turned q c a q₁ → Turned q c a q₂
+turned-as q c a q₁ q₂ e t = subst (λ (x : Queue). Turned q c a x) (sym e) t
+
+pub said-as : (what what′ : What) (woken woken′ : Woken) (t t′ : OptToken) (a : Answer) → what ≡ what′ → woken ≡ woken′ → t ≡ t′
+    → Says what (wokenTokens woken) (tokenList t) a → Says what′ (wokenTokens woken′) (tokenList t′) a
+said-as what what′ woken woken′ t t′ a e f g u =
+    subst (λ (x : What). Says x (wokenTokens woken′) (tokenList t′) a) e
+    (subst (λ (x : Woken). Says what (wokenTokens x) (tokenList t′) a) f (subst (λ (x : OptToken). Says what (wokenTokens woken) (tokenList x) a) g u))
+
+-- ---- takable
+module _ (q : Queue) (empty : What) (p : Popped) (k : Pops q p) where
+  pub takable-value : (v : ℕ) → p .front ≡ FValue v → WValue v ≡ takable empty (queueOf q)
+  takable-value v f = sym (ap (λ (l : List ℕ). takableOf empty l (model.noSender (queueOf q))) (first-value _ v (sym f ∙ k .0)))
+
+  module _ (f : p .front ≡ FNothing) (n : ℕ) (g : n ≡ live (handlesOf (q .senders))) where
+    pub takable-gone : n ≡ 0 → Disconnected Nothing ≡ takable empty (queueOf q)
+    takable-gone z = sym (ap₂ (λ (l : List ℕ) (b : Bool). takableOf empty l b) (first-nothing _ (sym f ∙ k .0)) (none-left (handlesOf (q .senders)) n g z))
+
+    pub takable-empty : (n ≡ 0 → ⊥) → empty ≡ takable empty (queueOf q)
+    takable-empty z = sym (ap₂ (λ (l : List ℕ) (b : Bool). takableOf empty l b) (first-nothing _ (sym f ∙ k .0)) (some-left (handlesOf (q .senders)) n g z))
+
+-- ---- receivable
+module _ (q : Queue) (s : ℕ) (b : Bool) (e : b ≡ isLive (lookup (handlesOf (q .receivers)) s)) where
+  by-receiver : (o : Option model.Mark) → lookup (handlesOf (q .receivers)) s ≡ o → receivable s (queueOf q) ≡ receivableOf o (queueOf q)
+  by-receiver o f = ap (λ (x : Option model.Mark). receivableOf x (queueOf q)) f
+
+  pub receivable-dead : b ≡ false → NoHandle ≡ receivable s (queueOf q)
+  receivable-dead d = sym (by-receiver none (dead _ b e (ap not d)))
+
+  pub receivable-live : (what : What) → b ≡ true → what ≡ takable Empty (queueOf q) → what ≡ receivable s (queueOf q)
+  receivable-live what d f = let l = alive _ b e (ap not d) in f ∙ sym (by-receiver (some (l .0)) (l .1))
+
+-- ---- a value that is told is the first, and a receiver is left
+value-first : (empty : What) (l : List ℕ) (gone : Bool) → isValue empty ≡ false → isValue (takableOf empty l gone) ≡ true → (v : ℕ) × (l ≡ v ∷ ring.rest l) × (takableOf empty l gone ≡ WValue v)
+unfolding ring.rest
+value-first empty [] true n e = let z : _≡_ {A = ℕ} 0 1 = cc in absurd (omega arith)
+value-first empty [] false n e = let z : _≡_ {A = ℕ} 0 1 = cc in absurd (omega arith)
+value-first empty (x ∷ l) gone n e = (x, refl, refl)
+
+value-live : (o : Option model.Mark) (q : model.Queue) → isValue (receivableOf o q) ≡ true → (a : model.Mark) × (o ≡ some a) × (isValue (takable Empty q) ≡ true) × (receivableOf o q ≡ takable Empty q)
+value-live none q e = let z : _≡_ {A = ℕ} 0 1 = cc in absurd (omega arith)
+value-live (some a) q e = (a, refl, e, refl)
+
+receiver-left : (q : Queue) → Sound q → (v : ℕ) (l : List ℕ) → ring.values (q .values) ≡ v ∷ l → live (handlesOf (q .receivers)) ≡ 0 → ⊥
+receiver-left q snd v l e z = let g = kept q snd .account .gone z in let h : length (ring.values (q .values)) ≡ length (v ∷ l) = ap length e in omega arith
+
+-- ---- a slot comes back while a receiver is left: to the free room, or to the first sender in line
+module _ (m : Queue) (sh : Shaped m) (z : live (handlesOf (m .receivers)) ≡ 0 → ⊥) (what : What) (t : OptToken)
+    (b : Bool) (g : b ≡ isNil (sideOf (m .outs) .line)) (woken : Woken) (a : Answer) (u : Says what (wokenTokens woken) (tokenList t) a) where
+  pub slot-free : b ≡ true → woken ≡ NoOne → Releases what t m (record { answer = a; queue = withFree (m .free + 1) m })
+  slot-free y w = release-free m sh what t (live (handlesOf (m .receivers))) refl z b g a y (said-as what what woken NoOne t t a refl w refl u)
+
+  pub slot-granted : (c : CalledOne) → b ≡ false → CallsOne (m .outs) c → woken ≡ c .woken → Releases what t m (record { answer = a; queue = withOuts (c .side) m })
+  slot-granted c y k w = release-grant m sh what t (live (handlesOf (m .receivers))) refl z b g c a y k (said-as what what woken (c .woken) t t a refl w refl u)
+
+-- the free room with a slot more
+pub slot-fits : (q : Queue) → Sound q → Fits w32 (q .free + 1)
+slot-fits q snd = record { fits = omega (arith, free-small q snd) }
+
+-- ---- try_recv
+-- where it takes nothing it answers what it is told, and changes nothing
+unmoved : (s : ℕ) (q : model.Queue) → isValue (receivable s q) ≡ false → model.reply (codeOf (receivable s q)) (fieldOf (receivable s q)) [] [] q ≡ tryRecv s q
+unmoved s q v = by (lookup (q .receivers) s) refl v
+  where
+    taking : (a : model.Mark) → lookup (q .receivers) s ≡ some a → (l : List ℕ) → q .values ≡ l → (g : Bool) → model.noSender q ≡ g → isValue (takableOf Empty l g) ≡ false
+        → model.reply (codeOf (takableOf Empty l g)) (fieldOf (takableOf Empty l g)) [] [] q ≡ tryRecv s q
+    taking a e [] f true h x = sym (tryRecv-gone s q a e f h)
+    taking a e [] f false h x = sym (tryRecv-empty s q a e f h)
+    taking a e (y ∷ l) f g h x = let z : _≡_ {A = ℕ} 0 1 = cc in absurd (omega arith)
+
+    by : (o : Option model.Mark) → lookup (q .receivers) s ≡ o → isValue (receivableOf o q) ≡ false → model.reply (codeOf (receivableOf o q)) (fieldOf (receivableOf o q)) [] [] q ≡ tryRecv s q
+    by none e x = sym (tryRecv-dead s q e)
+    by (some a) e x = taking a e (q .values) refl (model.noSender q) refl x
+
+module _ (q : Queue) (snd : Sound q) (s : ℕ) (what : What) (e : what ≡ receivable s (queueOf q)) (b : Bool) (i : b ≡ isValue what)
+    (woken : Woken) (a : Answer) (u : Says what (wokenTokens woken) [] a) (q′ : Queue) where
+  pub took-nothing : b ≡ false → q′ ≡ q → woken ≡ NoOne → Turned q (TryRecv s) a q′
+  unfolding step
+  took-nothing d f w =
+      turned-as q (TryRecv s) a q q′ f
+      (stays q (TryRecv s) what a snd (said-as what what woken NoOne NoToken NoToken a refl w refl u)
+      (ap (λ (x : What). model.reply (codeOf x) (fieldOf x) [] [] (queueOf q)) e ∙ unmoved s (queueOf q) (ap isValue (sym e) ∙ (sym i ∙ d))))
+
+  module _ (d : b ≡ true) (p : Popped) (k : Pops q p) where
+    live-one : (m : model.Mark) × (lookup (handlesOf (q .receivers)) s ≡ some m) × (isValue (takable Empty (queueOf q)) ≡ true) × (receivable s (queueOf q) ≡ takable Empty (queueOf q))
+    live-one = value-live (lookup (handlesOf (q .receivers)) s) (queueOf q) (ap isValue (sym e) ∙ (sym i ∙ d))
+
+    first-one : (v : ℕ) × (ring.values (q .values) ≡ v ∷ ring.rest (ring.values (q .values))) × (takable Empty (queueOf q) ≡ WValue v)
+    first-one = value-first Empty (ring.values (q .values)) (model.noSender (queueOf q)) refl (live-one .2)
+
+    took : (r : Turn) → Releases what NoToken (withValues (p .next) q) r → Turned q (TryRecv s) (r .answer) (r .queue)
+    unfolding step
+    took r x =
+        let y : Releases (WValue (first-one .0)) NoToken (withValues (p .next) q) r = subst (λ (w : What). Releases w NoToken (withValues (p .next) q) r) (e ∙ (live-one .3 ∙ first-one .2)) x in
+        does q (TryRecv s) _ r snd (y .does) refl
+        (ap (λ (j : List ℕ). releasing model.VALUE (first-one .0 ∷ []) [] (model.setValues j (queueOf q))) (k .2)
+        ∙ sym (tryRecv-value s (queueOf q) (live-one .0) (first-one .0) (ring.rest (ring.values (q .values))) (live-one .1) (first-one .1)))
+
+    module _ (b2 : Bool) (g : b2 ≡ isNil (sideOf (q .outs) .line)) where
+      rest-shaped : Shaped (withValues (p .next) q)
+      rest-shaped = shaped-values q (snd .shaped) (p .next) (k .1)
+
+      received : live (handlesOf (q .receivers)) ≡ 0 → ⊥
+      received = receiver-left q snd (first-one .0) (ring.rest (ring.values (q .values))) (first-one .1)
+
+      pub took-free : b2 ≡ true → q′ ≡ withFree (q .free + 1) (withValues (p .next) q) → woken ≡ NoOne → Turned q (TryRecv s) a q′
+      took-free y f w =
+          turned-as q (TryRecv s) a (withFree (q .free + 1) (withValues (p .next) q)) q′ f
+          (took (record { answer = a; queue = withFree (q .free + 1) (withValues (p .next) q) }) (slot-free (withValues (p .next) q) rest-shaped received what NoToken b2 g woken a u y w))
+
+      pub took-granted : (c : CalledOne) → b2 ≡ false → CallsOne (q .outs) c → q′ ≡ withOuts (c .side) (withValues (p .next) q) → woken ≡ c .woken → Turned q (TryRecv s) a q′
+      took-granted c y x f w =
+          turned-as q (TryRecv s) a (withOuts (c .side) (withValues (p .next) q)) q′ f
+          (took (record { answer = a; queue = withOuts (c .side) (withValues (p .next) q) }) (slot-granted (withValues (p .next) q) rest-shaped received what NoToken b2 g woken a u c y x w))
+
+-- ---- kept_of, pollable
+pub kept-missing : (view : View) → view ≡ Missing → [] ≡ keptOf (viewed view)
+kept-missing view f = sym (ap (λ (x : View). keptOf (viewed x)) f)
+
+pub kept-found : (view : View) (e : Entry) (l : List ℕ) → view ≡ Found e → l ≡ side.kept (stageOf (e .stage)) → l ≡ keptOf (viewed view)
+kept-found view e l f h = h ∙ sym (ap (λ (x : View). keptOf (viewed x)) f)
+
+module _ (q : Queue) (view : View) where
+  pub pollable-missing : view ≡ Missing → NoHandle ≡ pollable (viewed view) (queueOf q)
+  pollable-missing f = sym (ap (λ (x : View). pollable (viewed x) (queueOf q)) f)
+
+  pub pollable-found : (e : Entry) (what : What) → view ≡ Found e → what ≡ takable Pending (queueOf q) → what ≡ pollable (viewed view) (queueOf q)
+  pollable-found e what f h = h ∙ sym (ap (λ (x : View). pollable (viewed x) (queueOf q)) f)
+
+-- ---- what the answers of a poll-in tell
+open-told : (o : Option Deed) (q : model.Queue) (what : What) → what ≡ pollable o q → (what ≡ NoHandle → ⊥) → (op : Deed) × (o ≡ some op) × (what ≡ takable Pending q)
+open-told none q what e n = absurd (n e)
+open-told (some op) q what e n = (op, refl, e)
+
+value-told : (l : List ℕ) (gone : Bool) (v : ℕ) → WValue v ≡ takableOf Pending l gone → l ≡ v ∷ ring.rest l
+unfolding ring.rest
+value-told [] true v e = let z : _≡_ {A = ℕ} 0 1 = cc in absurd (omega arith)
+value-told [] false v e = let z : _≡_ {A = ℕ} 0 1 = cc in absurd (omega arith)
+value-told (x ∷ l) gone v e = let z : v ≡ x = cc in ap (λ (y : ℕ). y ∷ l) (sym z)
+
+gone-told : (l : List ℕ) (gone : Bool) (c : Cargo) → Disconnected c ≡ takableOf Pending l gone → (l ≡ []) × (gone ≡ true) × (c ≡ Nothing)
+gone-told [] true c e = (refl, refl, cc)
+gone-told [] false c e = let z : _≡_ {A = ℕ} 0 1 = cc in absurd (omega arith)
+gone-told (x ∷ l) gone c e = let z : _≡_ {A = ℕ} 0 1 = cc in absurd (omega arith)
+
+pending-told : (l : List ℕ) (gone : Bool) → Pending ≡ takableOf Pending l gone → (l ≡ []) × (gone ≡ false)
+pending-told [] true e = let z : _≡_ {A = ℕ} 0 1 = cc in absurd (omega arith)
+pending-told [] false e = (refl, refl)
+pending-told (x ∷ l) gone e = let z : _≡_ {A = ℕ} 0 1 = cc in absurd (omega arith)
+
+-- no arm of a match had this answer
+none-of : (ks : List ℕ) (what x : What) → OneOf ks (tagOf the-type what) → what ≡ x → T (not (hasKey ks (tagOf the-type x))) → ⊥
+none-of ks what x h e m = miss ks (tagOf the-type x) m (subst (λ (y : What). OneOf ks (tagOf the-type y)) e h)
+
+-- the tags that poll_in has no arm for: all but those of Value, Pending and Disconnected
+abbrev unpolled : List ℕ
+unpolled = 0 ∷ 1 ∷ 3 ∷ 5 ∷ 6 ∷ 7 ∷ 9 ∷ 10 ∷ 11 ∷ 12 ∷ []
+
+-- ---- poll_in
+module _ (q : Queue) (snd : Sound q) (n : ℕ) (view : View) (sees : Sees (q .ins) n view) (what : What) (e : what ≡ pollable (viewed view) (queueOf q)) where
+  open-at : (what ≡ NoHandle → ⊥) → (op : Deed) × (lookup (sideOf (q .ins) .ops) n ≡ some op) × (viewed view ≡ some op) × (what ≡ takable Pending (queueOf q))
+  open-at z = let o = open-told (viewed view) (queueOf q) what e z in (o .0, sym sees ∙ o .1, o .1, o .2)
+
+  of-value : (v : ℕ) → what ≡ WValue v → (op : Deed) × (lookup (sideOf (q .ins) .ops) n ≡ some op) × (viewed view ≡ some op) × (what ≡ takable Pending (queueOf q))
+  of-value v f = open-at (λ h. let z : _≡_ {A = ℕ} 0 1 = cc in omega arith)
+
+  of-gone : (c : Cargo) → what ≡ Disconnected c → (op : Deed) × (lookup (sideOf (q .ins) .ops) n ≡ some op) × (viewed view ≡ some op) × (what ≡ takable Pending (queueOf q))
+  of-gone c f = open-at (λ h. let z : _≡_ {A = ℕ} 0 1 = cc in omega arith)
+
+  of-pending : what ≡ Pending → (op : Deed) × (lookup (sideOf (q .ins) .ops) n ≡ some op) × (viewed view ≡ some op) × (what ≡ takable Pending (queueOf q))
+  of-pending f = open-at (λ h. let z : _≡_ {A = ℕ} 0 1 = cc in omega arith)
+
+  pub open-value : (v : ℕ) → what ≡ WValue v → Open (q .ins) n
+  open-value v f = let o = of-value v f in (o .0, o .1)
+
+  pub open-gone : (c : Cargo) → what ≡ Disconnected c → Open (q .ins) n
+  open-gone c f = let o = of-gone c f in (o .0, o .1)
+
+  pub open-pending : what ≡ Pending → Open (q .ins) n
+  open-pending f = let o = of-pending f in (o .0, o .1)
+
+  module _ (t : ℕ) (kept : OptToken) (y : tokenList kept ≡ keptOf (viewed view)) (woken : Woken) (retired : OptToken) (a : Answer) (u : Says what (wokenTokens woken) (tokenList retired) a) (q′ : Queue) where
+    kept-of : (op : Deed) → viewed view ≡ some op → tokenList kept ≡ side.kept (op .stage)
+    kept-of op f = y ∙ ap (λ (x : Option Deed). keptOf x) f
+
+    module _ (v : ℕ) (f : what ≡ WValue v) (o : Side) (x : Ends (q .ins) n o) (p : Popped) (k : Pops q p) where
+      first-in : ring.values (q .values) ≡ v ∷ ring.rest (ring.values (q .values))
+      first-in = value-told (ring.values (q .values)) (model.noSender (queueOf q)) v (sym f ∙ of-value v f .3)
+
+      in-took : (r : Turn) → Releases what kept (withValues (p .next) (withIns o q)) r → Turned q (PollIn n t) (r .answer) (r .queue)
+      unfolding step
+      in-took r h =
+          let w : Releases (WValue v) kept (withValues (p .next) (withIns o q)) r = subst (λ (x : What). Releases x kept (withValues (p .next) (withIns o q)) r) f h in
+          let op = of-value v f in
+          does q (PollIn n t) _ r snd (w .does) refl
+          (ap₂ (λ (l : List ℕ) (i : side.Side model.Job). releasing model.VALUE (v ∷ []) (tokenList kept) (model.setValues l (model.setIns i (queueOf q)))) (k .2) (x .side)
+          ∙ (ap (λ (l : List ℕ). releasing model.VALUE (v ∷ []) l (model.setValues (ring.rest (ring.values (q .values))) (model.setIns (side.ended n (sideOf (q .ins))) (queueOf q)))) (kept-of (op .0) (op .2))
+          ∙ sym (pollIn-value n t (queueOf q) (op .0) v (ring.rest (ring.values (q .values))) (op .1) first-in)))
+
+      in-shaped : Shaped (withValues (p .next) (withIns o q))
+      in-shaped = shaped-values (withIns o q) (shaped-ins q (snd .shaped) o (x .sound)) (p .next) (k .1)
+
+      in-received : live (handlesOf (q .receivers)) ≡ 0 → ⊥
+      in-received = receiver-left q snd v (ring.rest (ring.values (q .values))) first-in
+
+      module _ (b : Bool) (g : b ≡ isNil (sideOf (q .outs) .line)) (m : retired ≡ kept) where
+        in-said : Says what (wokenTokens woken) (tokenList kept) a
+        in-said = said-as what what woken woken retired kept a refl refl m u
+
+        pub in-free : b ≡ true → q′ ≡ withFree (q .free + 1) (withValues (p .next) (withIns o q)) → woken ≡ NoOne → Turned q (PollIn n t) a q′
+        in-free d h w =
+            turned-as q (PollIn n t) a (withFree (q .free + 1) (withValues (p .next) (withIns o q))) q′ h
+            (in-took (record { answer = a; queue = withFree (q .free + 1) (withValues (p .next) (withIns o q)) })
+            (slot-free (withValues (p .next) (withIns o q)) in-shaped in-received what kept b g woken a in-said d w))
+
+        pub in-granted : (c : CalledOne) → b ≡ false → CallsOne (q .outs) c → q′ ≡ withOuts (c .side) (withValues (p .next) (withIns o q)) → woken ≡ c .woken → Turned q (PollIn n t) a q′
+        in-granted c d z h w =
+            turned-as q (PollIn n t) a (withOuts (c .side) (withValues (p .next) (withIns o q))) q′ h
+            (in-took (record { answer = a; queue = withOuts (c .side) (withValues (p .next) (withIns o q)) })
+            (slot-granted (withValues (p .next) (withIns o q)) in-shaped in-received what kept b g woken a in-said c d z w))
+
+    pub in-ended : (c : Cargo) (o : Side) → what ≡ Disconnected c → Ends (q .ins) n o → q′ ≡ withIns o q → retired ≡ kept → woken ≡ NoOne → Turned q (PollIn n t) a q′
+    unfolding step
+    in-ended c o f x h m w =
+        let op = of-gone c f in
+        let g = gone-told (ring.values (q .values)) (model.noSender (queueOf q)) c (sym f ∙ op .3) in
+        turned-as q (PollIn n t) a (withIns o q) q′ h
+        (moves q (PollIn n t) (Disconnected Nothing) [] (tokenList kept) a (withIns o q) snd (shaped-ins q (snd .shaped) o (x .sound))
+        (said-as what (Disconnected Nothing) woken NoOne retired kept a (f ∙ ap (λ (z : Cargo). Disconnected z) (g .2)) w m u) refl
+        (ap₂ (λ (l : List ℕ) (i : side.Side model.Job). model.reply model.DISCONNECTED [] [] l (model.setIns i (queueOf q))) (kept-of (op .0) (op .2)) (x .side)
+        ∙ sym (pollIn-gone n t (queueOf q) (op .0) (op .1) (g .0) (g .1))))
+
+    pub in-waits : (o : Pended) → what ≡ Pending → Pends (q .ins) n t o → q′ ≡ withIns (o .side) q → retired ≡ o .retired → woken ≡ NoOne → Turned q (PollIn n t) a q′
+    unfolding step
+    in-waits o f x h m w =
+        let op = of-pending f in
+        let g = pending-told (ring.values (q .values)) (model.noSender (queueOf q)) (sym f ∙ op .3) in
+        turned-as q (PollIn n t) a (withIns (o .side) q) q′ h
+        (moves q (PollIn n t) Pending [] (tokenList (o .retired)) a (withIns (o .side) q) snd (shaped-ins q (snd .shaped) (o .side) (x .sound))
+        (said-as what Pending woken NoOne retired (o .retired) a f w m u) refl
+        (ap₂ (λ (l : List ℕ) (i : side.Side model.Job). model.reply model.PENDING [] [] l (model.setIns i (queueOf q))) (x .retired (op .0) (op .1)) (x .side (op .0) (op .1))
+        ∙ sym (pollIn-pending n t (queueOf q) (op .0) (op .1) (g .0) (g .1))))
+
+    pub in-refused : OneOf unpolled (tagOf the-type what) → q′ ≡ q → retired ≡ kept → woken ≡ NoOne → Turned q (PollIn n t) a q′
+    unfolding step
+    in-refused z h m w =
+        let f = by (viewed view) e in
+        turned-as q (PollIn n t) a q q′ h
+        (stays q (PollIn n t) NoHandle a snd
+        (subst (λ (l : List ℕ). Says NoHandle [] l a) (y ∙ ap (λ (x : Option Deed). keptOf x) f)
+        (said-as what NoHandle woken NoOne retired kept a (e ∙ ap (λ (x : Option Deed). pollable x (queueOf q)) f) w m u))
+        (sym (pollIn-dead n t (queueOf q) (sym sees ∙ f))))
+      where
+        told : (l : List ℕ) (gone : Bool) → what ≡ takableOf Pending l gone → ⊥
+        told [] true x = none-of unpolled what (Disconnected Nothing) z x tt
+        told [] false x = none-of unpolled what Pending z x tt
+        told (v ∷ l) gone x = none-of unpolled what (WValue v) z x tt
+
+        by : (o : Option Deed) → what ≡ pollable o (queueOf q) → o ≡ none
+        by none x = refl
+        by (some op) x = absurd (told (ring.values (q .values)) (model.noSender (queueOf q)) x)
+
+-- ---- cancel_in
+pub seen-open : (s : Side) (n : ℕ) (view : View) (e : Entry) → Sees s n view → view ≡ Found e → Open s n
+seen-open s n view e sees f = found-open s n e (sees-found s n view e sees f)
+
+module _ (q : Queue) (snd : Sound q) (n : ℕ) (view : View) (sees : Sees (q .ins) n view)
+    (what : What) (woken : Woken) (retired : OptToken) (a : Answer) (u : Says what (wokenTokens woken) (tokenList retired) a) (q′ : Queue) where
+  pub left-missing : view ≡ Missing → q′ ≡ q → what ≡ NoHandle → woken ≡ NoOne → retired ≡ NoToken → Turned q (CancelIn n) a q′
+  left-missing f h e w m =
+      turned-as q (CancelIn n) a q q′ h (leave-in-dead q n view a snd sees f (said-as what NoHandle woken NoOne retired NoToken a e w m u))
+
+  module _ (op : Entry) (f : view ≡ Found op) (left queued : ℕ) (g : left ≡ live (handlesOf (q .senders))) (h : queued ≡ length (ring.values (q .values)))
+      (o : Side) (x : Ends (q .ins) n o) (b : Bool) (y : b ≡ passes (stageOf (op .stage)) left queued) (e : what ≡ Done) where
+    module _ (d : b ≡ true) (m : retired ≡ NoToken) (b2 : Bool) (l : b2 ≡ isNil (sideOf o .line)) where
+      passed : (r : Turn) → Notifies (withIns o q) r → Turned q (CancelIn n) (r .answer) (r .queue)
+      passed r k = leave-in-passed q snd n op (sees-found (q .ins) n view op sees f) left queued g h o x b y r d k
+
+      pub left-nobody : b2 ≡ true → q′ ≡ withIns o q → woken ≡ NoOne → Turned q (CancelIn n) a q′
+      left-nobody c k w =
+          turned-as q (CancelIn n) a (withIns o q) q′ k
+          (passed (record { answer = a; queue = withIns o q })
+          (notify-nobody (withIns o q) (shaped-ins q (snd .shaped) o (x .sound)) a b2 l c (said-as what Done woken NoOne retired NoToken a e w m u)))
+
+      pub left-one : (c : CalledOne) → b2 ≡ false → CallsOne o c → q′ ≡ withIns (c .side) q → woken ≡ c .woken → Turned q (CancelIn n) a q′
+      left-one c z i k w =
+          turned-as q (CancelIn n) a (withIns (c .side) q) q′ k
+          (passed (record { answer = a; queue = withIns (c .side) q })
+          (notify-one (withIns o q) (shaped-ins q (snd .shaped) o (x .sound)) c a i (said-as what Done woken (c .woken) retired NoToken a e w m u)))
+
+    pub left-other : (t : OptToken) → b ≡ false → tokenList t ≡ side.kept (stageOf (op .stage)) → q′ ≡ withIns o q → woken ≡ NoOne → retired ≡ t → Turned q (CancelIn n) a q′
+    left-other t d p k w m =
+        turned-as q (CancelIn n) a (withIns o q) q′ k
+        (leave-in-other q snd n op (sees-found (q .ins) n view op sees f) left queued g h o x b y t a d p (said-as what Done woken NoOne retired t a e w m u))
+
+-- ---- recv
+pub receiver-fits : (h : Handles) (n : ℕ) (b : Bool) → HandlesSound h → b ≡ isLive (lookup (handlesOf h) n) → b ≡ true → Fits w8 n
+receiver-fits h n b s e d = owner-fits h n b s e (ap not d)
+
+module _ (q : Queue) (snd : Sound q) (s : ℕ) (b : Bool) (e : b ≡ isLive (lookup (handlesOf (q .receivers)) s)) (what : What) (a : Answer) (u : Says what [] [] a) (q′ : Queue) where
+  says-so : (x : What) → what ≡ x → Says x [] [] a
+  says-so x f = subst (λ (y : What). Says y [] [] a) f u
+
+  pub opened-dead : b ≡ false → q′ ≡ q → what ≡ NoHandle → Turned q (Recv s) a q′
+  opened-dead d h f = turned-as q (Recv s) a q q′ h (recv-dead q snd s b e a (ap not d) (says-so NoHandle f))
+
+  module _ (d : b ≡ true) (o : Opened) (k : Opens (q .ins) s Nothing o) where
+    pub opened-full : o .number ≡ NoNumber → q′ ≡ q → what ≡ NoRoom → Turned q (Recv s) a q′
+    opened-full g h f = turned-as q (Recv s) a q q′ h (recv-full q snd s b e (ap not d) o k a g (says-so NoRoom f))
+
+    pub opened-given : (n : ℕ) → o .number ≡ GivenNo n → q′ ≡ withIns (o .side) q → what ≡ WGiven n → Turned q (Recv s) a q′
+    opened-given n g h f = turned-as q (Recv s) a (withIns (o .side) q) q′ h (recv-given q snd s b e (ap not d) o k n a g (says-so (WGiven n) f))
