@@ -1,6 +1,7 @@
 pub mod Settled
 pub mod Sending
 pub mod Sent
+pub mod Polled
 pub mod Receiving
 pub mod Taken
 pub mod Handing

@@ -245,40 +245,34 @@ impl Queue {
         }
     }
 
-    // A reserve or a send is opened, by what it carries.
+    // A reserve or a send is opened, by what it carries. Like the calls below it changes the queue in place and puts the turn together once, at
+    // its end, so that the record is copied no more than it must be.
     fn open_out(mut self, s: u32, cargo: Cargo) -> Turn
         requires { ⌜ Sound self ⌝ }
         ensures { λ r. ⌜ Turned self (opening cargo s) (r .answer) (r .queue) ⌝ }
     {
+        let mut what = What::NoHandle;
         let senders = self.senders;
-        if !senders.has(s) {
-            let answer = plain(What::NoHandle);
-            return Turn {
-                answer: answer,
-                queue: self,
-            };
+        if senders.has(s) {
+            let outs = self.outs;
+            let owner = s as u8;
+            let opened = outs.open(owner, cargo);
+            let number = opened.number;
+            match number {
+                Number::NoRoom => {
+                    what = What::NoRoom;
+                }
+                Number::Given(n) => {
+                    let side = opened.side;
+                    self.outs = side;
+                    what = What::Given(n);
+                }
+            }
         }
-        let outs = self.outs;
-        let owner = s as u8;
-        let opened = outs.open(owner, cargo);
-        let number = opened.number;
-        let side = opened.side;
-        match number {
-            Number::NoRoom => {
-                let answer = plain(What::NoRoom);
-                Turn {
-                    answer: answer,
-                    queue: self,
-                }
-            }
-            Number::Given(n) => {
-                self.outs = side;
-                let answer = plain(What::Given(n));
-                Turn {
-                    answer: answer,
-                    queue: self,
-                }
-            }
+        let answer = plain(what);
+        Turn {
+            answer: answer,
+            queue: self,
         }
     }
 

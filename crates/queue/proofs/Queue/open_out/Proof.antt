@@ -1,7 +1,7 @@
--- `queue::Queue::open_out` meets its contract.
+-- `queue::Queue::open_out` meets its contract. Its arms meet before the one exit: no number is free, a number was given, no such sender.
 -- Assumes nothing.
-use Rattle.queue.proofs.Sending.{out-dead, out-full, out-given}
-use Rattle.queue.proofs.Settled.{owner-fits}
+use mathlib.Core.Logic.{⊎-elim}
+use Rattle.queue.proofs.Polled.{owner-small, open-dead, open-full, open-given}
 use borrow.Author.Needs.{needs}
 use Rattle.queue.proofs.Queue.open_out.Statement.{statement}
 use Rattle.queue.proofs.Queue.open_out.Tie as tie
@@ -9,14 +9,8 @@ use Rattle.queue.proofs.Queue.open_out.Tie as tie
 has-requires : tie.Need-has-requires
 has-requires c κs = search needs
 
-plain-requires : tie.Need-plain-requires
-plain-requires c κs = search needs
-
-returns : tie.Need-returns
-returns c = search out-dead
-
 cast-owner : tie.Need-cast-owner
-cast-owner c = search owner-fits
+cast-owner c = search owner-small
 
 open-requires : tie.Need-open-requires
 open-requires c κs = search needs
@@ -24,33 +18,23 @@ open-requires c κs = search needs
 enum-told : tie.Need-enum-told
 enum-told c = search needs
 
-plain-requires-2 : tie.Need-plain-requires-2
-plain-requires-2 c κs = search needs
-
 enum-known-number : tie.Need-enum-known-number
 enum-known-number c = search needs
 
-plain-requires-3 : tie.Need-plain-requires-3
-plain-requires-3 c κs = search needs
+plain-requires : tie.Need-plain-requires
+plain-requires c κs = search needs
 
-returns-2 : tie.Need-returns-2
-returns-2 c = search out-full
-
-returns-3 : tie.Need-returns-3
-returns-3 c = search out-given
+returns : tie.Need-returns
+returns c = ⊎-elim (λ w. search open-full) (λ v. ⊎-elim (λ w. search open-given) (λ w. search open-dead) v) (c .before .if1 .came)
 
 pub open-out-spec : {M : Type 1} → statement M
 open-out-spec =
     tie.close
     (tie.spec
     has-requires
-    plain-requires
-    returns
     cast-owner
     open-requires
     enum-told
-    plain-requires-2
     enum-known-number
-    plain-requires-3
-    returns-2
-    returns-3)
+    plain-requires
+    returns)
