@@ -1,28 +1,56 @@
 -- The exits of reserve and send, poll_out and cancel_out, where the arms of a call meet: the queue and the answer's case are variables there,
 -- which each arm ties to its own by an equation. Assumes nothing.
-use Prim.Native.Nat.{ℕ}
-use mathlib.Core.Path.{_≡_, sym, ap, subst}
+use Prim.Native.Nat.{ℕ, _-_, _<_}
+use mathlib.Core.Path.{_≡_, refl, sym, ap, _∙_, subst}
 use mathlib.Core.Bool.{Bool, true, false, not}
-use mathlib.Core.List.{List, []}
+use mathlib.Core.List.{List, [], _∷_, _++_}
+use mathlib.Core.Logic.{inl, inr, ⊎-elim}
+use mathlib.Core.Option.{some}
+use native.Mathlib.Omega.{arith}
+use lib.ListN.{length}
 use mir.Val.{Fits}
 use mir.Syntax.{w8}
+use Rattle.ring.specs.declared.Ring.{Ring}
+use Rattle.ring.specs.Values as ring
+use Rattle.waitlist.specs.View.{isNil}
+use Rattle.tables.specs.declared.Number.{Number}
 use Rattle.tables.specs.declared.Number.the-variants.{NoRoom as NoNumber, Given as GivenNo}
 use Rattle.tables.specs.declared.Handles.{Handles}
-use Rattle.tables.specs.Meaning.{handlesOf, isLive, HandlesSound}
+use Rattle.tables.specs.declared.Given.{Given}
+use Rattle.tables.specs.Meaning.{handlesOf, permitsOf, isLive, numbered, HandlesSound}
+use Rattle.tables.specs.Calls.{Gives}
+use Rattle.side.specs.declared.Side.{Side}
 use Rattle.side.specs.declared.Cargo.{Cargo}
+use Rattle.side.specs.declared.Cargo.the-variants.{Nothing, Value as CValue}
+use Rattle.side.specs.declared.OptToken.{OptToken}
+use Rattle.side.specs.declared.OptToken.the-variants.{NoToken}
+use Rattle.side.specs.declared.Woken.{Woken}
+use Rattle.side.specs.declared.Woken.the-variants.{Nobody}
+use Rattle.side.specs.declared.Entry.{Entry}
+use Rattle.side.specs.declared.View.{View}
+use Rattle.side.specs.declared.View.the-variants.{Found}
 use Rattle.side.specs.declared.Opened.{Opened}
-use Rattle.side.specs.Calls.{Opens}
-use Rattle.model.specs.Table.{lookup}
+use Rattle.side.specs.declared.Pended.{Pended}
+use Rattle.side.specs.declared.CalledOne.{CalledOne}
+use Rattle.side.specs.Meaning.{sideOf, stageOf, tokenList, wokenTokens}
+use Rattle.side.specs.Calls.{Open, Sees, Opens, Ends, Pends, CallsOne}
+use Rattle.model.specs.Table.{lookup, live, size}
 use Rattle.model.specs.declared.Call.{Call}
+use Rattle.model.specs.declared.Call.the-variants.{PollOut}
 use Rattle.queue.specs.declared.Queue.{Queue}
 use Rattle.queue.specs.declared.What.{What}
-use Rattle.queue.specs.declared.What.the-variants.{Given as WGiven, NoHandle, NoRoom}
+use Rattle.queue.specs.declared.What.the-variants.{Done, Given as WGiven, Pending, Disconnected, NoHandle, NoRoom}
 use Rattle.queue.specs.declared.Answer.{Answer}
-use Rattle.queue.specs.Meaning.{Sound}
+use Rattle.queue.specs.declared.Turn.{Turn}
+use Rattle.queue.specs.declared.outgoing.Outcome.{Outcome}
+use Rattle.queue.specs.declared.outgoing.Outcome.the-variants.{NoHandle as NoOperation, Gone, Permit, Push, Stays}
+use Rattle.queue.specs.Meaning.{Shaped, Sound}
 use Rattle.queue.specs.Promise.{Turned}
-use Rattle.queue.specs.Steps.{Says, opening}
-use Rattle.queue.proofs.Settled.{withOuts, owner-fits}
-use Rattle.queue.proofs.Sending.{out-dead, out-full, out-given}
+use Rattle.queue.specs.Steps.{Says, Notifies, Completes, opening, ready, withSlot, Slot, Comes, givenBy}
+use Rattle.queue.specs.Steps as steps
+use Rattle.queue.proofs.Settled.{kept, withValues, withFree, withPermits, withOuts, withIns, owner-fits, found-open}
+use Rattle.queue.proofs.Sending.{out-dead, out-full, out-given, notify-nobody, notify-one, pushed, shaped-pushed, complete-push, complete-given, spare, ready-free}
+use Rattle.queue.proofs.Sending.{poll-dead, sees-found, poll-gone, poll-granted, poll-room, poll-pending, granted, room-granted, room-ready, shaped-taken}
 
 -- ---- along the equations of an arm
 told : (q : Queue) (c : Call) (a : Answer) (q′ q″ : Queue) → q″ ≡ q′ → Turned q c a q′ → Turned q c a q″
@@ -45,3 +73,146 @@ module _ (q : Queue) (snd : Sound q) (s : ℕ) (c : Cargo) (b : Bool) (e : b ≡
 
     pub open-given : (n : ℕ) → o .number ≡ GivenNo n → q′ ≡ withOuts (o .side) q → what ≡ WGiven n → Turned q (opening c s) a q′
     open-given n f x y = told q (opening c s) a (withOuts (o .side) q) q′ x (out-given q snd s c b e (ap not d) o k n a f (saying what (WGiven n) [] [] a y u))
+
+-- ---- with_slot, outcome_open, outcome_of
+pub slot-reserve : (c : Cargo) (s f : ℕ) → c ≡ Nothing → Permit s f ≡ withSlot c s f
+slot-reserve c s f e = sym (ap (λ (x : Cargo). withSlot x s f) e)
+
+pub slot-send : (c : Cargo) (s f v : ℕ) → c ≡ CValue v → Push v f ≡ withSlot c s f
+slot-send c s f v e = sym (ap (λ (x : Cargo). withSlot x s f) e)
+
+module _ (e : Entry) (left free : ℕ) where
+  pub comes-gone : left ≡ 0 → Comes (Found e) left free (Gone (e .cargo))
+  comes-gone z = (e, refl, z, refl)
+
+  module _ (z : left ≡ 0 → ⊥) (b : Bool) (h : b ≡ steps.granted e) where
+    slotted : (rest : ℕ) → Slot e free rest → (c : Cargo) → e .cargo ≡ c → Comes (Found e) left free (withSlot c (e .owner) rest)
+    slotted rest w Nothing f = (e, refl, z, f, refl, w)
+    slotted rest w (CValue v) f = (e, refl, z, f, w)
+
+    as-slotted : (rest : ℕ) → Slot e free rest → (r : Outcome) → r ≡ withSlot (e .cargo) (e .owner) rest → Comes (Found e) left free r
+    as-slotted rest w r x = subst (λ (y : Outcome). Comes (Found e) left free y) (sym x) (slotted rest w (e .cargo) refl)
+
+    pub comes-granted : (r : Outcome) → b ≡ true → r ≡ withSlot (e .cargo) (e .owner) free → Comes (Found e) left free r
+    comes-granted r y x = as-slotted free (inl (sym h ∙ y, refl)) r x
+
+    module _ (n : b ≡ false) (b2 : Bool) (j : b2 ≡ ready (stageOf (e .stage)) free) where
+      pub comes-room : (r : Outcome) → b2 ≡ true → r ≡ withSlot (e .cargo) (e .owner) (free - 1) → Comes (Found e) left free r
+      comes-room r y x = as-slotted (free - 1) (inr (sym h ∙ n, sym j ∙ y, refl)) r x
+
+      pub comes-pending : b2 ≡ false → Comes (Found e) left free Stays
+      comes-pending y = (e, refl, z, sym h ∙ n, sym j ∙ y)
+
+pub comes-found : (view : View) (e : Entry) (left free : ℕ) (r : Outcome) → view ≡ Found e → Comes (Found e) left free r → Comes view left free r
+comes-found view e left free r f m = subst (λ (v : View). Comes v left free r) (sym f) m
+
+-- ---- poll_out
+-- a number that is to be had is given
+number-given : (x : Number) (p : ℕ) → numbered x ≡ some p → x ≡ GivenNo p
+number-given NoNumber p e = let z : _≡_ {A = ℕ} 0 1 = cc in absurd (omega arith)
+number-given (GivenNo n) p e = cc
+
+module _ (q : Queue) (snd : Sound q) (n t : ℕ) (k : ℕ) (g : k ≡ live (handlesOf (q .receivers))) where
+  module _ (e : Entry) (sees : Sees (q .outs) n (Found e)) (z : k ≡ 0 → ⊥) (f : ℕ) (w : Slot e (q .free) f) where
+    slot-room : length (ring.values (q .values)) < 64
+    slot-room = ⊎-elim (λ x. room-granted q snd n t e sees k g z _ refl (q .outs) (x .0)) (λ x. room-ready q snd n t e sees k g z _ refl (x .0) _ refl (x .1)) w
+
+    slot-spare : live (permitsOf (q .permits)) < size (permitsOf (q .permits))
+    slot-spare =
+        let i = kept q snd in
+        let p : 0 < live (handlesOf (q .receivers)) = omega arith in
+        ⊎-elim (λ x. omega (arith, granted q snd n t e sees k g z _ refl (x .0), i .account .room p, i .sizes .capacity, i .sizes .permits))
+        (λ x. omega (arith, ready-free (e .stage) (q .free) _ refl (x .1), i .account .fits, i .sizes .capacity, i .sizes .permits)) w
+
+    slot-taken : (o : Side) (r : Turn) → Ends (q .outs) n o → Completes (e .cargo) (e .owner) (withFree f (withOuts o q)) r → Turned q (PollOut n t) (r .answer) (r .queue)
+    slot-taken o r x u =
+        ⊎-elim
+        (λ y. poll-granted q snd n t e sees k g z _ refl o r (y .0) x (subst (λ (m : ℕ). Completes (e .cargo) (e .owner) (withFree m (withOuts o q)) r) (y .1) u))
+        (λ y. poll-room q snd n t e sees k g z _ refl (y .0) _ refl o r (y .1) x (subst (λ (m : ℕ). Completes (e .cargo) (e .owner) (withFree m (withOuts o q)) r) (y .2) u))
+        w
+
+  module _ (view : View) (sees : Sees (q .outs) n view) (plan : Outcome) (m : Comes view k (q .free) plan) where
+    by : (x : Outcome) → plan ≡ x → Comes view k (q .free) x
+    by x e = subst (λ (y : Outcome). Comes view k (q .free) y) e m
+
+    at : (e : Entry) → view ≡ Found e → Sees (q .outs) n (Found e)
+    at e f = sees-found (q .outs) n view e sees f
+
+    opened : (e : Entry) → view ≡ Found e → Open (q .outs) n
+    opened e f = found-open (q .outs) n e (at e f)
+
+    pub open-gone : (c : Cargo) → plan ≡ Gone c → Open (q .outs) n
+    open-gone c e = let y = by (Gone c) e in opened (y .0) (y .1)
+
+    pub open-permit : (s f : ℕ) → plan ≡ Permit s f → Open (q .outs) n
+    open-permit s f e = let y = by (Permit s f) e in opened (y .0) (y .1)
+
+    pub open-push : (v f : ℕ) → plan ≡ Push v f → Open (q .outs) n
+    open-push v f e = let y = by (Push v f) e in opened (y .0) (y .1)
+
+    pub open-stays : plan ≡ Stays → Open (q .outs) n
+    open-stays e = let y = by Stays e in opened (y .0) (y .1)
+
+    pub room-push : (v f : ℕ) → plan ≡ Push v f → length (ring.values (q .values)) < 64
+    room-push v f e = let y = by (Push v f) e in slot-room (y .0) (at (y .0) (y .1)) (y .2) f (y .4)
+
+    module _ (what : What) (woken : Woken) (retired : OptToken) (a : Answer) (u : Says what (wokenTokens woken) (tokenList retired) a) (q′ : Queue) where
+      said-as : (what′ : What) (woken′ : Woken) (retired′ : OptToken) → what ≡ what′ → woken ≡ woken′ → retired ≡ retired′ → Says what′ (wokenTokens woken′) (tokenList retired′) a
+      said-as what′ woken′ retired′ x y z =
+          subst (λ (i : What). Says i (wokenTokens woken′) (tokenList retired′) a) x
+          (subst (λ (i : Woken). Says what (wokenTokens i) (tokenList retired′) a) y
+          (subst (λ (i : OptToken). Says what (wokenTokens woken) (tokenList i) a) z u))
+
+      pub polled-dead : plan ≡ NoOperation → q′ ≡ q → what ≡ NoHandle → woken ≡ Nobody → retired ≡ NoToken → Turned q (PollOut n t) a q′
+      polled-dead e i x y z = told q (PollOut n t) a q q′ i (poll-dead q n t view a snd sees (by NoOperation e) (said-as NoHandle Nobody NoToken x y z))
+
+      pub polled-gone : (c : Cargo) (o : Side) → plan ≡ Gone c → Ends (q .outs) n o → q′ ≡ withOuts o q → what ≡ Disconnected c → woken ≡ Nobody → retired ≡ NoToken → Turned q (PollOut n t) a q′
+      polled-gone c o e d i x y z =
+          let h = by (Gone c) e in
+          told q (PollOut n t) a (withOuts o q) q′ i
+          (poll-gone q snd n t (h .0) (at (h .0) (h .1)) k g o a (h .2) d
+          (said-as (Disconnected (h .0 .cargo)) Nobody NoToken (x ∙ ap Disconnected (sym (h .3))) y z))
+
+      pub polled-pending : (p : Pended) → plan ≡ Stays → Pends (q .outs) n t p → q′ ≡ withOuts (p .side) q → what ≡ Pending → woken ≡ Nobody → retired ≡ p .retired → Turned q (PollOut n t) a q′
+      polled-pending p e d i x y z =
+          let h = by Stays e in
+          told q (PollOut n t) a (withOuts (p .side) q) q′ i
+          (poll-pending q snd n t (h .0) (at (h .0) (h .1)) k g (h .2) _ refl (h .3) _ refl p a (h .4) d (said-as Pending Nobody (p .retired) x y z))
+
+      module _ (f : ℕ) (o : Side) (d : Ends (q .outs) n o) where
+        pub polled-permit : (s : ℕ) (p : Given) → plan ≡ Permit s f → Gives (q .permits) s p → q′ ≡ withPermits (p .permits) (withFree f (withOuts o q)) → what ≡ givenBy (p .number)
+            → woken ≡ Nobody → retired ≡ NoToken → Turned q (PollOut n t) a q′
+        polled-permit s p e l i x y z =
+            let h = by (Permit s f) e in
+            let b = spare (permitsOf (q .permits)) (slot-spare (h .0) (at (h .0) (h .1)) (h .2) f (h .5)) in
+            let w = number-given (p .number) (b .0) (l .number ∙ b .1) in
+            let l′ : Gives (q .permits) (h .0 .owner) p = subst (λ (j : ℕ). Gives (q .permits) j p) (sym (h .4)) l in
+            told q (PollOut n t) a (withPermits (p .permits) (withFree f (withOuts o q))) q′ i
+            (slot-taken (h .0) (at (h .0) (h .1)) (h .2) f (h .5) o (record { answer = a; queue = withPermits (p .permits) (withFree f (withOuts o q)) }) d
+            (complete-given (withFree f (withOuts o q)) (shaped-taken q n o f snd d) (h .0 .cargo) (h .0 .owner) (h .3) p l′ (b .0) a w
+            (said-as (WGiven (b .0)) Nobody NoToken (x ∙ ap givenBy w) y z)))
+
+        module _ (v : ℕ) (e : plan ≡ Push v f) (r : Ring) (l : (ring.Sound r) × (ring.values r ≡ ring.values (q .values) ++ (v ∷ []))) where
+          pushing : (x : Turn) → Notifies (withValues r (withFree f (withOuts o q))) x → Turned q (PollOut n t) (x .answer) (x .queue)
+          pushing x y =
+              let h = by (Push v f) e in
+              let s = shaped-taken q n o f snd d in
+              slot-taken (h .0) (at (h .0) (h .1)) (h .2) f (h .4) o x d
+              (complete-push (withFree f (withOuts o q)) s (h .0 .cargo) (h .0 .owner) v x (h .3) (pushed (withFree f (withOuts o q)) s v r x l y))
+
+          shape : Shaped (withValues r (withFree f (withOuts o q)))
+          shape = shaped-pushed (withFree f (withOuts o q)) (shaped-taken q n o f snd d) v r l
+
+          module _ (b : Bool) (h : b ≡ isNil (sideOf (q .ins) .line)) where
+            pub polled-quiet : b ≡ true → q′ ≡ withValues r (withFree f (withOuts o q)) → what ≡ Done → woken ≡ Nobody → retired ≡ NoToken → Turned q (PollOut n t) a q′
+            polled-quiet j i x y z =
+                told q (PollOut n t) a (withValues r (withFree f (withOuts o q))) q′ i
+                (pushing (record { answer = a; queue = withValues r (withFree f (withOuts o q)) })
+                (notify-nobody (withValues r (withFree f (withOuts o q))) shape a b h j (said-as Done Nobody NoToken x y z)))
+
+          pub polled-notified : (c : CalledOne) → CallsOne (q .ins) c → q′ ≡ withIns (c .side) (withValues r (withFree f (withOuts o q))) → what ≡ Done → woken ≡ c .woken → retired ≡ NoToken
+              → Turned q (PollOut n t) a q′
+          polled-notified c j i x y z =
+              told q (PollOut n t) a (withIns (c .side) (withValues r (withFree f (withOuts o q)))) q′ i
+              (pushing (record { answer = a; queue = withIns (c .side) (withValues r (withFree f (withOuts o q))) })
+              (notify-one (withValues r (withFree f (withOuts o q))) shape c a j (said-as Done (c .woken) NoToken x y z)))

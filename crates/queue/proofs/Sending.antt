@@ -313,7 +313,7 @@ module _ (q : Queue) (snd : Sound q) (n t : ℕ) (e : Entry) (sees : Sees (q .ou
     some-receiver = some-left (handlesOf (q .receivers)) k g z
 
     -- a granted operation is one of the called ones
-    granted : b ≡ true → 1 ≤ side.calledCount (sideOf (q .outs))
+    pub granted : b ≡ true → 1 ≤ side.calledCount (sideOf (q .outs))
     granted y =
         let p = of-le (λ (op : Deed). side.isCalled (op .stage)) (sideOf (q .outs) .ops) n in
         let w = eqb-true (side.isCalled (stageOf (e .stage))) 1 (sym h ∙ y) in

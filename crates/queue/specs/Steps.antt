@@ -1,6 +1,7 @@
 -- THE STEPS INSIDE THE CALLS, by the definition's move of each name. Assumes nothing.
-use Prim.Native.Nat.{ℕ}
+use Prim.Native.Nat.{ℕ, _-_}
 use mathlib.Core.Path.{_≡_}
+use mathlib.Core.Logic.{_⊎_}
 use mathlib.Core.Bool.{Bool, true, false, not, _&&_}
 use mathlib.Core.List.{List, [], _∷_}
 use mathlib.Core.Option.{Option, none, some}
@@ -13,7 +14,10 @@ use Rattle.tables.specs.Meaning.{handlesOf, isLive}
 use Rattle.side.specs.declared.Cargo.{Cargo}
 use Rattle.side.specs.declared.Cargo.the-variants.{Nothing, Value as CValue}
 use Rattle.side.specs.declared.OptToken.{OptToken}
-use Rattle.side.specs.Meaning.{carried, tokenList}
+use Rattle.side.specs.declared.Entry.{Entry}
+use Rattle.side.specs.declared.View.{View}
+use Rattle.side.specs.declared.View.the-variants.{Missing, Found}
+use Rattle.side.specs.Meaning.{carried, stageOf, tokenList}
 use Rattle.model.specs.Table.{blank, lookup, live, if_then_else_}
 use Rattle.model.specs.Side as side
 use Rattle.model.specs.Queue as model
@@ -25,6 +29,8 @@ use Rattle.queue.specs.declared.What.{What}
 use Rattle.queue.specs.declared.What.the-variants.{Done, Discarded, Value as WValue, Given as WGiven, Pending, Status as WStatus, Full, Empty, Disconnected, BadCapacity, NoHandle, InUse, NoRoom}
 use Rattle.queue.specs.declared.Answer.{Answer}
 use Rattle.queue.specs.declared.Turn.{Turn}
+use Rattle.queue.specs.declared.outgoing.Outcome.{Outcome}
+use Rattle.queue.specs.declared.outgoing.Outcome.the-variants.{NoHandle as NoOperation, Gone, Permit, Push, Stays}
 use Rattle.queue.specs.Meaning.{queueOf, Shaped}
 use Rattle.queue.specs.Answers.{codeOf, fieldOf, ansOf, resultOf}
 
@@ -143,6 +149,27 @@ sends c s q = tried c (isLive (lookup (q .senders) s)) (model.noReceiver q) (mod
 abbrev pub givenBy : Number → What
 givenBy NoNumber = NoRoom
 givenBy (GivenNo n) = WGiven n
+
+-- ---- what a poll of an outgoing operation comes to
+-- an operation that has its slot, by what it carries; `rest` is the free room that is left
+abbrev pub withSlot : Cargo → ℕ → ℕ → Outcome
+withSlot Nothing owner rest = Permit owner rest
+withSlot (CValue v) owner rest = Push v rest
+
+abbrev pub granted : Entry → Bool
+granted e = eqb (side.isCalled (stageOf (e .stage))) 1
+
+-- its slot is its grant, or one of the free ones
+abbrev pub Slot : Entry → ℕ → ℕ → Type 0
+Slot e free rest = ((granted e ≡ true) × (rest ≡ free)) ⊎ ((granted e ≡ false) × (ready (stageOf (e .stage)) free ≡ true) × (rest ≡ free - 1))
+
+-- by what is seen of the operation, the receivers left and the free room
+abbrev pub Comes : View → ℕ → ℕ → Outcome → Type 0
+Comes view left free NoOperation = view ≡ Missing
+Comes view left free (Gone c) = (e : Entry) × (view ≡ Found e) × (left ≡ 0) × (e .cargo ≡ c)
+Comes view left free (Permit s rest) = (e : Entry) × (view ≡ Found e) × (left ≡ 0 → ⊥) × (e .cargo ≡ Nothing) × (e .owner ≡ s) × Slot e free rest
+Comes view left free (Push v rest) = (e : Entry) × (view ≡ Found e) × (left ≡ 0 → ⊥) × (e .cargo ≡ CValue v) × Slot e free rest
+Comes view left free Stays = (e : Entry) × (view ≡ Found e) × (left ≡ 0 → ⊥) × (granted e ≡ false) × (ready (stageOf (e .stage)) free ≡ false)
 
 -- ---- which call opens an operation with this cargo
 abbrev pub opening : Cargo → ℕ → Call

@@ -17,11 +17,10 @@ ghost use lib.ListN.{length};
 ghost use Prim.Native.Nat.{_<_, _≤_};
 ghost use Rattle.side.specs.declared.View.the-variants.{Found};
 ghost use Rattle.side.specs.Meaning.{stageOf};
-ghost use Rattle.side.specs.Calls.{Sees};
 ghost use Rattle.model.specs.declared.Call.the-variants.{TrySend, TryRes, Reserve, Send, PollOut, CancelOut, PermitSend, PermitDrop};
 ghost use Rattle.queue.specs.Meaning.{queueOf, Shaped, Sound};
 ghost use Rattle.queue.specs.Promise.{Turned};
-ghost use Rattle.queue.specs.Steps.{Notifies, Pushes, Releases, Completes, opening, ready, isDone, sends, givenBy};
+ghost use Rattle.queue.specs.Steps.{Notifies, Pushes, Releases, Completes, opening, ready, isDone, sends, givenBy, withSlot, Comes};
 
 // May an operation at this stage take a free slot? Not one that waits in line.
 fn is_ready(stage: Stage, free: u32) -> bool
@@ -32,6 +31,59 @@ fn is_ready(stage: Stage, free: u32) -> bool
         Stage::Idle => free != 0,
         Stage::Called => free != 0,
         Stage::Void => free != 0,
+    }
+}
+
+// What a poll of an outgoing operation comes to. `free` is the room that is left once the operation has its slot.
+enum Outcome {
+    NoHandle,
+    Gone(Cargo),
+    Permit { owner: u8, free: u32 },
+    Push { value: u32, free: u32 },
+    Stays,
+}
+
+// An operation that has its slot: a reserve comes to a permit of its sender, a send to a push.
+fn with_slot(cargo: Cargo, owner: u8, free: u32) -> Outcome
+    ensures { λ r. ⌜ r ≡ withSlot cargo owner free ⌝ }
+{
+    match cargo {
+        Cargo::Nothing => Outcome::Permit {
+            owner: owner,
+            free: free,
+        },
+        Cargo::Value(v) => Outcome::Push {
+            value: v,
+            free: free,
+        },
+    }
+}
+
+fn outcome_open(op: Entry, left: u32, free: u32) -> Outcome
+    ensures { λ r. ⌜ Comes (Found op) left free r ⌝ }
+{
+    let cargo = op.cargo;
+    let stage = op.stage;
+    let owner = op.owner;
+    if left == 0 {
+        return Outcome::Gone(cargo);
+    }
+    if stage.is_called() {
+        return with_slot(cargo, owner, free);
+    }
+    if is_ready(stage, free) {
+        let rest = free - 1;
+        return with_slot(cargo, owner, rest);
+    }
+    Outcome::Stays
+}
+
+fn outcome_of(view: View, left: u32, free: u32) -> Outcome
+    ensures { λ r. ⌜ Comes view left free r ⌝ }
+{
+    match view {
+        View::Missing => Outcome::NoHandle,
+        View::Found(op) => outcome_open(op, left, free),
     }
 }
 
@@ -290,62 +342,62 @@ impl Queue {
         self.open_out(s, Cargo::Value(v))
     }
 
-    // poll-out of the operation n, which is open.
-    fn poll_open(mut self, n: u32, token: u32, op: Entry) -> Turn
+    // What it comes to is told first, from what is only read. (A permit's number is always to be had.)
+    pub fn poll_out(mut self, n: u32, token: u32) -> Turn
         requires { ⌜ Sound self ⌝ }
-        requires { ⌜ Sees (self .outs) n (Found op) ⌝ }
         ensures { λ r. ⌜ Turned self (PollOut n token) (r .answer) (r .queue) ⌝ }
     {
+        let mut what = What::NoHandle;
+        let mut woken = Woken::Nobody;
+        let mut retired = OptToken::NoToken;
         let outs = self.outs;
-        let cargo = op.cargo;
-        let stage = op.stage;
-        let owner = op.owner;
+        let view = outs.get(n);
         let receivers = self.receivers;
         let left = receivers.count();
-        if left == 0 {
-            self.outs = outs.end(n);
-            let answer = plain(What::Disconnected(cargo));
-            return Turn {
-                answer: answer,
-                queue: self,
-            };
+        let now = self.free;
+        let outcome = outcome_of(view, left, now);
+        match outcome {
+            Outcome::NoHandle => {}
+            Outcome::Gone(cargo) => {
+                self.outs = outs.end(n);
+                what = What::Disconnected(cargo);
+            }
+            Outcome::Permit { owner, free } => {
+                self.outs = outs.end(n);
+                self.free = free;
+                let permits = self.permits;
+                let opened = permits.open(owner);
+                let number = opened.number;
+                let table = opened.permits;
+                self.permits = table;
+                what = given(number);
+            }
+            Outcome::Push { value, free } => {
+                self.outs = outs.end(n);
+                self.free = free;
+                let values = self.values;
+                self.values = values.push_back(value);
+                what = What::Done;
+                let ins = self.ins;
+                if ins.line_is_empty() {} else {
+                    let called = ins.call_first();
+                    woken = called.woken;
+                    let side = called.side;
+                    self.ins = side;
+                }
+            }
+            Outcome::Stays => {
+                let pended = outs.pend(n, token);
+                retired = pended.retired;
+                let side = pended.side;
+                self.outs = side;
+                what = What::Pending;
+            }
         }
-        if stage.is_called() {
-            self.outs = outs.end(n);
-            return self.complete(cargo, owner);
-        }
-        let free = self.free;
-        if is_ready(stage, free) {
-            self.outs = outs.end(n);
-            self.free = free - 1;
-            return self.complete(cargo, owner);
-        }
-        let pended = outs.pend(n, token);
-        let retired = pended.retired;
-        let side = pended.side;
-        self.outs = side;
-        let answer = say(What::Pending, Woken::Nobody, retired);
+        let answer = say(what, woken, retired);
         Turn {
             answer: answer,
             queue: self,
-        }
-    }
-
-    pub fn poll_out(self, n: u32, token: u32) -> Turn
-        requires { ⌜ Sound self ⌝ }
-        ensures { λ r. ⌜ Turned self (PollOut n token) (r .answer) (r .queue) ⌝ }
-    {
-        let outs = self.outs;
-        let view = outs.get(n);
-        match view {
-            View::Missing => {
-                let answer = plain(What::NoHandle);
-                Turn {
-                    answer: answer,
-                    queue: self,
-                }
-            }
-            View::Found(op) => self.poll_open(n, token, op),
         }
     }
 
