@@ -1,5 +1,5 @@
--- The exits of what receivers do: recv, try_recv, poll_in, cancel_in. Assumes nothing.
-use Prim.Native.Nat.{ℕ, _-_}
+-- What receivers are answered: the ways of recv and cancel_in, and the first value. Assumes nothing.
+use Prim.Native.Nat.{ℕ}
 use mathlib.Core.Path.{_≡_, refl, sym, ap, ap₂, _∙_}
 use mathlib.Core.Bool.{Bool, true, false, not, _&&_}
 use mathlib.Core.List.{List, [], _∷_}
@@ -21,24 +21,23 @@ use Rattle.side.specs.declared.Entry.{Entry}
 use Rattle.side.specs.declared.View.{View}
 use Rattle.side.specs.declared.View.the-variants.{Missing, Found}
 use Rattle.side.specs.declared.Opened.{Opened}
-use Rattle.side.specs.declared.Pended.{Pended}
 use Rattle.side.specs.Meaning.{sideOf, stageOf, deedOf, viewed, tokenList}
-use Rattle.side.specs.Calls.{Sees, Opens, openedIf, Ends, Pends}
+use Rattle.side.specs.Calls.{Sees, Opens, openedIf, Ends}
 use Rattle.model.specs.Table.{lookup, live}
 use Rattle.model.specs.Side as side
 use Rattle.model.specs.Queue as model
-use Rattle.model.specs.declared.Call.the-variants.{Recv, TryRecv, PollIn, CancelIn}
+use Rattle.model.specs.declared.Call.the-variants.{Recv, CancelIn}
 use Rattle.model.specs.Calls.{step}
-use Rattle.model.proofs.Leaves.{openIn-dead, openIn-full, openIn-given, tryRecv-dead, tryRecv-value, tryRecv-gone, tryRecv-empty}
-use Rattle.model.proofs.Leaves.{pollIn-dead, pollIn-value, pollIn-gone, pollIn-pending, cancelIn-dead, cancelIn-passed, cancelIn-other}
+use Rattle.model.proofs.Leaves.{openIn-dead, openIn-full, openIn-given}
+use Rattle.model.proofs.Leaves.{cancelIn-dead, cancelIn-passed, cancelIn-other}
 use Rattle.queue.specs.declared.Queue.{Queue}
-use Rattle.queue.specs.declared.What.the-variants.{Done, Value as WValue, Given as WGiven, Pending, Empty, Disconnected, NoHandle, NoRoom}
+use Rattle.queue.specs.declared.What.the-variants.{Done, Given as WGiven, NoHandle, NoRoom}
 use Rattle.queue.specs.declared.Answer.{Answer}
 use Rattle.queue.specs.declared.Turn.{Turn}
-use Rattle.queue.specs.Meaning.{queueOf, Shaped, Sound}
+use Rattle.queue.specs.Meaning.{queueOf, Sound}
 use Rattle.queue.specs.Promise.{Turned}
-use Rattle.queue.specs.Steps.{Says, Notifies, Releases, releasing, passes}
-use Rattle.queue.proofs.Settled.{stays, moves, does, withValues, withIns, shaped-values, shaped-ins, dead, alive, none-left, some-left}
+use Rattle.queue.specs.Steps.{Says, Notifies, passes}
+use Rattle.queue.proofs.Settled.{stays, moves, does, withIns, shaped-ins, dead, alive}
 
 -- ---- recv
 module _ (q : Queue) (snd : Sound q) (s : ℕ) (b : Bool) (e : b ≡ isLive (lookup (handlesOf (q .receivers)) s)) where
@@ -75,73 +74,6 @@ first-nothing (x ∷ l) e = let z : _≡_ {A = ℕ} 0 1 = cc in absurd (omega ar
 -- what pop_front promises
 abbrev pub Pops : Queue → Popped → Type 0
 Pops q p = (p .front ≡ ring.first (ring.values (q .values))) × (ring.Sound (p .next)) × (ring.values (p .next) ≡ ring.rest (ring.values (q .values)))
-
--- ---- try_recv
-module _ (q : Queue) (snd : Sound q) (s : ℕ) (b : Bool) (e : b ≡ isLive (lookup (handlesOf (q .receivers)) s)) where
-  pub take-dead : (a : Answer) → not b ≡ true → Says NoHandle [] [] a → Turned q (TryRecv s) a q
-  unfolding step
-  take-dead a d u = stays q (TryRecv s) NoHandle a snd u (sym (tryRecv-dead s (queueOf q) (dead _ b e d)))
-
-  module _ (d : not b ≡ false) (p : Popped) (k : Pops q p) where
-    pub take-value : (v : ℕ) (t : OptToken) (r : Turn) → p .front ≡ FValue v → tokenList t ≡ [] → Releases (WValue v) t (withValues (p .next) q) r → Turned q (TryRecv s) (r .answer) (r .queue)
-    unfolding step
-    take-value v t r f w u =
-        let l = alive _ b e d in
-        does q (TryRecv s) _ r snd (u .does) refl
-        (ap₂ (λ (i j : List ℕ). releasing model.VALUE (v ∷ []) i (model.setValues j (queueOf q))) w (k .2)
-        ∙ sym (tryRecv-value s (queueOf q) (l .0) v (ring.rest (ring.values (q .values))) (l .1) (first-value _ v (sym f ∙ k .0))))
-
-    module _ (f : p .front ≡ FNothing) (n : ℕ) (g : n ≡ live (handlesOf (q .senders))) where
-      pub take-gone : (a : Answer) → n ≡ 0 → Says (Disconnected Nothing) [] [] a → Turned q (TryRecv s) a q
-      unfolding step
-      take-gone a z u =
-          let l = alive _ b e d in
-          stays q (TryRecv s) (Disconnected Nothing) a snd u (sym (tryRecv-gone s (queueOf q) (l .0) (l .1) (first-nothing _ (sym f ∙ k .0)) (none-left (handlesOf (q .senders)) n g z)))
-
-      pub take-empty : (a : Answer) → (n ≡ 0 → ⊥) → Says Empty [] [] a → Turned q (TryRecv s) a q
-      unfolding step
-      take-empty a z u =
-          let l = alive _ b e d in
-          stays q (TryRecv s) Empty a snd u (sym (tryRecv-empty s (queueOf q) (l .0) (l .1) (first-nothing _ (sym f ∙ k .0)) (some-left (handlesOf (q .senders)) n g z)))
-
--- the parts of the queue without its first value, and of that without the operation, stay sound
-pub shaped-popped : (q : Queue) (p : Popped) → Sound q → Pops q p → Shaped (withValues (p .next) q)
-shaped-popped q p snd k = shaped-values q (snd .shaped) (p .next) (k .1)
-
-pub shaped-received : (q : Queue) (p : Popped) (n : ℕ) (o : Side) → Sound q → Pops q p → Ends (q .ins) n o → Shaped (withIns o (withValues (p .next) q))
-shaped-received q p n o snd k x = shaped-ins (withValues (p .next) q) (shaped-values q (snd .shaped) (p .next) (k .1)) o (x .sound)
-
-pub shaped-left : (q : Queue) (n : ℕ) (o : Side) → Sound q → Ends (q .ins) n o → Shaped (withIns o q)
-shaped-left q n o snd x = shaped-ins q (snd .shaped) o (x .sound)
-
--- ---- poll_in
-pub in-dead : (q : Queue) (n t : ℕ) (view : View) (a : Answer) → Sound q → Sees (q .ins) n view → view ≡ Missing → Says NoHandle [] [] a → Turned q (PollIn n t) a q
-unfolding step
-in-dead q n t view a snd sees e u = stays q (PollIn n t) NoHandle a snd u (sym (pollIn-dead n t (queueOf q) (sym sees ∙ ap viewed e)))
-
-module _ (q : Queue) (snd : Sound q) (n t : ℕ) (e : Entry) (sees : Sees (q .ins) n (Found e)) (h : OptToken) (y : tokenList h ≡ side.kept (stageOf (e .stage))) (p : Popped) (k : Pops q p) where
-  pub in-value : (v : ℕ) (o : Side) (r : Turn) → p .front ≡ FValue v → Ends (q .ins) n o → Releases (WValue v) h (withIns o (withValues (p .next) q)) r → Turned q (PollIn n t) (r .answer) (r .queue)
-  unfolding step
-  in-value v o r c x u =
-      does q (PollIn n t) _ r snd (u .does) refl
-      (ap₂ (λ (l : List ℕ) (i : side.Side model.Job). releasing model.VALUE (v ∷ []) (tokenList h) (model.setValues l (model.setIns i (queueOf q)))) (k .2) (x .side)
-      ∙ (ap (λ (l : List ℕ). releasing model.VALUE (v ∷ []) l (model.setValues (ring.rest (ring.values (q .values))) (model.setIns (side.ended n (sideOf (q .ins))) (queueOf q)))) y
-      ∙ sym (pollIn-value n t (queueOf q) (deedOf e) v (ring.rest (ring.values (q .values))) (sym sees) (first-value _ v (sym c ∙ k .0)))))
-
-  module _ (c : p .front ≡ FNothing) (j : ℕ) (g : j ≡ live (handlesOf (q .senders))) where
-    pub in-gone : (o : Side) (a : Answer) → j ≡ 0 → Ends (q .ins) n o → Says (Disconnected Nothing) [] (tokenList h) a → Turned q (PollIn n t) a (withIns o q)
-    unfolding step
-    in-gone o a z x u =
-        moves q (PollIn n t) (Disconnected Nothing) [] (tokenList h) a (withIns o q) snd (shaped-ins q (snd .shaped) o (x .sound)) u refl
-        (ap₂ (λ (l : List ℕ) (i : side.Side model.Job). model.reply model.DISCONNECTED [] [] l (model.setIns i (queueOf q))) y (x .side)
-        ∙ sym (pollIn-gone n t (queueOf q) (deedOf e) (sym sees) (first-nothing _ (sym c ∙ k .0)) (none-left (handlesOf (q .senders)) j g z)))
-
-    pub in-pending : (o : Pended) (a : Answer) → (j ≡ 0 → ⊥) → Pends (q .ins) n t o → Says Pending [] (tokenList (o .retired)) a → Turned q (PollIn n t) a (withIns (o .side) q)
-    unfolding step
-    in-pending o a z x u =
-        moves q (PollIn n t) Pending [] (tokenList (o .retired)) a (withIns (o .side) q) snd (shaped-ins q (snd .shaped) (o .side) (x .sound)) u refl
-        (ap₂ (λ (l : List ℕ) (i : side.Side model.Job). model.reply model.PENDING [] [] l (model.setIns i (queueOf q))) (x .retired (deedOf e) (sym sees)) (x .side (deedOf e) (sym sees))
-        ∙ sym (pollIn-pending n t (queueOf q) (deedOf e) (sym sees) (first-nothing _ (sym c ∙ k .0)) (some-left (handlesOf (q .senders)) j g z)))
 
 -- ---- passes_on
 module _ (st : Stage) (left queued : ℕ) (b : Bool) (e : b ≡ eqb (side.isCalled (stageOf st)) 1) where

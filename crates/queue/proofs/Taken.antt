@@ -13,6 +13,7 @@ use types.Run.{OneOf, miss}
 use denote.Enum.Declared.{tagOf}
 use Rattle.ring.specs.declared.Front.the-variants.{Value as FValue, Nothing as FNothing}
 use Rattle.ring.specs.declared.Popped.{Popped}
+use Rattle.ring.specs.declared.Ring.{Ring}
 use Rattle.ring.specs.Values as ring
 use Rattle.waitlist.specs.View.{isNil}
 use Rattle.tables.specs.declared.Handles.{Handles}
@@ -48,7 +49,7 @@ use Rattle.queue.specs.declared.Turn.{Turn}
 use Rattle.queue.specs.Meaning.{queueOf, Shaped, Sound}
 use Rattle.queue.specs.Answers.{codeOf, fieldOf}
 use Rattle.queue.specs.Promise.{Turned}
-use Rattle.queue.specs.Steps.{Says, Notifies, Releases, releasing, takable, takableOf, receivable, receivableOf, pollable, keptOf, isValue, passes}
+use Rattle.queue.specs.Steps.{Says, Notifies, Releases, releasing, takable, takableOf, receivable, receivableOf, pollable, keptOf, passes}
 use Rattle.queue.proofs.Settled.{kept, stays, moves, does, withValues, withFree, withOuts, withIns, shaped-values, shaped-ins, dead, alive, none-left, some-left, owner-fits, free-small, found-open}
 use Rattle.queue.proofs.Sending.{notify-nobody, notify-one, release-free, release-grant, sees-found}
 use Rattle.queue.proofs.Receiving.{Pops, first-value, first-nothing, recv-dead, recv-full, recv-given, leave-in-dead, leave-in-passed, leave-in-other}
@@ -63,6 +64,14 @@ pub said-as : (what what′ : What) (woken woken′ : Woken) (t t′ : OptToken)
 said-as what what′ woken woken′ t t′ a e f g u =
     subst (λ (x : What). Says x (wokenTokens woken′) (tokenList t′) a) e
     (subst (λ (x : Woken). Says what (wokenTokens x) (tokenList t′) a) f (subst (λ (x : OptToken). Says what (wokenTokens woken) (tokenList x) a) g u))
+
+-- ---- no arm of a match had this answer
+none-of : (ks : List ℕ) (what x : What) → OneOf ks (tagOf the-type what) → what ≡ x → T (not (hasKey ks (tagOf the-type x))) → ⊥
+none-of ks what x h e m = miss ks (tagOf the-type x) m (subst (λ (y : What). OneOf ks (tagOf the-type y)) e h)
+
+-- ---- without_first
+pub rest-of : (l : List ℕ) (p : Popped) → ring.Pops l p → ring.Holds (ring.rest l) (p .next)
+rest-of l p k = (k .1, k .2)
 
 -- ---- takable
 module _ (q : Queue) (empty : What) (p : Popped) (k : Pops q p) where
@@ -88,15 +97,15 @@ module _ (q : Queue) (s : ℕ) (b : Bool) (e : b ≡ isLive (lookup (handlesOf (
   receivable-live what d f = let l = alive _ b e (ap not d) in f ∙ sym (by-receiver (some (l .0)) (l .1))
 
 -- ---- a value that is told is the first, and a receiver is left
-value-first : (empty : What) (l : List ℕ) (gone : Bool) → isValue empty ≡ false → isValue (takableOf empty l gone) ≡ true → (v : ℕ) × (l ≡ v ∷ ring.rest l) × (takableOf empty l gone ≡ WValue v)
+value-told : (empty : What) (l : List ℕ) (gone : Bool) (v : ℕ) → (empty ≡ WValue v → ⊥) → WValue v ≡ takableOf empty l gone → l ≡ v ∷ ring.rest l
 unfolding ring.rest
-value-first empty [] true n e = let z : _≡_ {A = ℕ} 0 1 = cc in absurd (omega arith)
-value-first empty [] false n e = let z : _≡_ {A = ℕ} 0 1 = cc in absurd (omega arith)
-value-first empty (x ∷ l) gone n e = (x, refl, refl)
+value-told empty [] true v n e = let z : _≡_ {A = ℕ} 0 1 = cc in absurd (omega arith)
+value-told empty [] false v n e = absurd (n (sym e))
+value-told empty (x ∷ l) gone v n e = let z : v ≡ x = cc in ap (λ (y : ℕ). y ∷ l) (sym z)
 
-value-live : (o : Option model.Mark) (q : model.Queue) → isValue (receivableOf o q) ≡ true → (a : model.Mark) × (o ≡ some a) × (isValue (takable Empty q) ≡ true) × (receivableOf o q ≡ takable Empty q)
-value-live none q e = let z : _≡_ {A = ℕ} 0 1 = cc in absurd (omega arith)
-value-live (some a) q e = (a, refl, e, refl)
+value-live : (o : Option model.Mark) (q : model.Queue) (v : ℕ) → WValue v ≡ receivableOf o q → (a : model.Mark) × (o ≡ some a) × (WValue v ≡ takable Empty q)
+value-live none q v e = let z : _≡_ {A = ℕ} 0 1 = cc in absurd (omega arith)
+value-live (some a) q v e = (a, refl, e)
 
 receiver-left : (q : Queue) → Sound q → (v : ℕ) (l : List ℕ) → ring.values (q .values) ≡ v ∷ l → live (handlesOf (q .receivers)) ≡ 0 → ⊥
 receiver-left q snd v l e z = let g = kept q snd .account .gone z in let h : length (ring.values (q .values)) ≡ length (v ∷ l) = ap length e in omega arith
@@ -115,60 +124,66 @@ pub slot-fits : (q : Queue) → Sound q → Fits w32 (q .free + 1)
 slot-fits q snd = record { fits = omega (arith, free-small q snd) }
 
 -- ---- try_recv
+-- the tags that try_recv has no arm for: all but that of Value
+abbrev untaken : List ℕ
+untaken = 0 ∷ 1 ∷ 3 ∷ 4 ∷ 5 ∷ 6 ∷ 7 ∷ 8 ∷ 9 ∷ 10 ∷ 11 ∷ 12 ∷ []
+
 -- where it takes nothing it answers what it is told, and changes nothing
-unmoved : (s : ℕ) (q : model.Queue) → isValue (receivable s q) ≡ false → model.reply (codeOf (receivable s q)) (fieldOf (receivable s q)) [] [] q ≡ tryRecv s q
-unmoved s q v = by (lookup (q .receivers) s) refl v
-  where
-    taking : (a : model.Mark) → lookup (q .receivers) s ≡ some a → (l : List ℕ) → q .values ≡ l → (g : Bool) → model.noSender q ≡ g → isValue (takableOf Empty l g) ≡ false
-        → model.reply (codeOf (takableOf Empty l g)) (fieldOf (takableOf Empty l g)) [] [] q ≡ tryRecv s q
-    taking a e [] f true h x = sym (tryRecv-gone s q a e f h)
-    taking a e [] f false h x = sym (tryRecv-empty s q a e f h)
-    taking a e (y ∷ l) f g h x = let z : _≡_ {A = ℕ} 0 1 = cc in absurd (omega arith)
+module _ (s : ℕ) (q : model.Queue) (what : What) (t : OneOf untaken (tagOf the-type what)) where
+  answered : (x : What) → what ≡ x → model.reply (codeOf what) (fieldOf what) [] [] q ≡ model.reply (codeOf x) (fieldOf x) [] [] q
+  answered x e = ap (λ (y : What). model.reply (codeOf y) (fieldOf y) [] [] q) e
 
-    by : (o : Option model.Mark) → lookup (q .receivers) s ≡ o → isValue (receivableOf o q) ≡ false → model.reply (codeOf (receivableOf o q)) (fieldOf (receivableOf o q)) [] [] q ≡ tryRecv s q
-    by none e x = sym (tryRecv-dead s q e)
-    by (some a) e x = taking a e (q .values) refl (model.noSender q) refl x
+  unmoved : what ≡ receivable s q → model.reply (codeOf what) (fieldOf what) [] [] q ≡ tryRecv s q
+  unmoved e = by (lookup (q .receivers) s) refl e
+    where
+      taking : (a : model.Mark) → lookup (q .receivers) s ≡ some a → (l : List ℕ) → q .values ≡ l → (g : Bool) → model.noSender q ≡ g → what ≡ takableOf Empty l g
+          → model.reply (codeOf what) (fieldOf what) [] [] q ≡ tryRecv s q
+      taking a d [] f true h x = answered (Disconnected Nothing) x ∙ sym (tryRecv-gone s q a d f h)
+      taking a d [] f false h x = answered Empty x ∙ sym (tryRecv-empty s q a d f h)
+      taking a d (v ∷ l) f g h x = absurd (none-of untaken what (WValue v) t x tt)
 
-module _ (q : Queue) (snd : Sound q) (s : ℕ) (what : What) (e : what ≡ receivable s (queueOf q)) (b : Bool) (i : b ≡ isValue what)
-    (woken : Woken) (a : Answer) (u : Says what (wokenTokens woken) [] a) (q′ : Queue) where
-  pub took-nothing : b ≡ false → q′ ≡ q → woken ≡ NoOne → Turned q (TryRecv s) a q′
+      by : (o : Option model.Mark) → lookup (q .receivers) s ≡ o → what ≡ receivableOf o q → model.reply (codeOf what) (fieldOf what) [] [] q ≡ tryRecv s q
+      by none d x = answered NoHandle x ∙ sym (tryRecv-dead s q d)
+      by (some a) d x = taking a d (q .values) refl (model.noSender q) refl x
+
+module _ (q : Queue) (snd : Sound q) (s : ℕ) (what : What) (e : what ≡ receivable s (queueOf q)) (woken : Woken) (a : Answer) (u : Says what (wokenTokens woken) [] a) (q′ : Queue) where
+  pub took-nothing : OneOf untaken (tagOf the-type what) → q′ ≡ q → woken ≡ NoOne → Turned q (TryRecv s) a q′
   unfolding step
-  took-nothing d f w =
+  took-nothing t f w =
       turned-as q (TryRecv s) a q q′ f
-      (stays q (TryRecv s) what a snd (said-as what what woken NoOne NoToken NoToken a refl w refl u)
-      (ap (λ (x : What). model.reply (codeOf x) (fieldOf x) [] [] (queueOf q)) e ∙ unmoved s (queueOf q) (ap isValue (sym e) ∙ (sym i ∙ d))))
+      (stays q (TryRecv s) what a snd (said-as what what woken NoOne NoToken NoToken a refl w refl u) (unmoved s (queueOf q) what t e))
 
-  module _ (d : b ≡ true) (p : Popped) (k : Pops q p) where
-    live-one : (m : model.Mark) × (lookup (handlesOf (q .receivers)) s ≡ some m) × (isValue (takable Empty (queueOf q)) ≡ true) × (receivable s (queueOf q) ≡ takable Empty (queueOf q))
-    live-one = value-live (lookup (handlesOf (q .receivers)) s) (queueOf q) (ap isValue (sym e) ∙ (sym i ∙ d))
+  module _ (v : ℕ) (f : what ≡ WValue v) (x : Ring) (k : ring.Holds (ring.rest (ring.values (q .values))) x) where
+    live-one : (m : model.Mark) × (lookup (handlesOf (q .receivers)) s ≡ some m) × (WValue v ≡ takable Empty (queueOf q))
+    live-one = value-live (lookup (handlesOf (q .receivers)) s) (queueOf q) v (sym f ∙ e)
 
-    first-one : (v : ℕ) × (ring.values (q .values) ≡ v ∷ ring.rest (ring.values (q .values))) × (takable Empty (queueOf q) ≡ WValue v)
-    first-one = value-first Empty (ring.values (q .values)) (model.noSender (queueOf q)) refl (live-one .2)
+    first-one : ring.values (q .values) ≡ v ∷ ring.rest (ring.values (q .values))
+    first-one = value-told Empty (ring.values (q .values)) (model.noSender (queueOf q)) v (λ h. let z : _≡_ {A = ℕ} 0 1 = cc in omega arith) (live-one .2)
 
-    took : (r : Turn) → Releases what NoToken (withValues (p .next) q) r → Turned q (TryRecv s) (r .answer) (r .queue)
+    took : (r : Turn) → Releases what NoToken (withValues x q) r → Turned q (TryRecv s) (r .answer) (r .queue)
     unfolding step
-    took r x =
-        let y : Releases (WValue (first-one .0)) NoToken (withValues (p .next) q) r = subst (λ (w : What). Releases w NoToken (withValues (p .next) q) r) (e ∙ (live-one .3 ∙ first-one .2)) x in
+    took r h =
+        let y : Releases (WValue v) NoToken (withValues x q) r = subst (λ (w : What). Releases w NoToken (withValues x q) r) f h in
         does q (TryRecv s) _ r snd (y .does) refl
-        (ap (λ (j : List ℕ). releasing model.VALUE (first-one .0 ∷ []) [] (model.setValues j (queueOf q))) (k .2)
-        ∙ sym (tryRecv-value s (queueOf q) (live-one .0) (first-one .0) (ring.rest (ring.values (q .values))) (live-one .1) (first-one .1)))
+        (ap (λ (j : List ℕ). releasing model.VALUE (v ∷ []) [] (model.setValues j (queueOf q))) (k .1)
+        ∙ sym (tryRecv-value s (queueOf q) (live-one .0) v (ring.rest (ring.values (q .values))) (live-one .1) first-one))
 
-    module _ (b2 : Bool) (g : b2 ≡ isNil (sideOf (q .outs) .line)) where
-      rest-shaped : Shaped (withValues (p .next) q)
-      rest-shaped = shaped-values q (snd .shaped) (p .next) (k .1)
+    module _ (b : Bool) (g : b ≡ isNil (sideOf (q .outs) .line)) where
+      rest-shaped : Shaped (withValues x q)
+      rest-shaped = shaped-values q (snd .shaped) x (k .0)
 
       received : live (handlesOf (q .receivers)) ≡ 0 → ⊥
-      received = receiver-left q snd (first-one .0) (ring.rest (ring.values (q .values))) (first-one .1)
+      received = receiver-left q snd v (ring.rest (ring.values (q .values))) first-one
 
-      pub took-free : b2 ≡ true → q′ ≡ withFree (q .free + 1) (withValues (p .next) q) → woken ≡ NoOne → Turned q (TryRecv s) a q′
-      took-free y f w =
-          turned-as q (TryRecv s) a (withFree (q .free + 1) (withValues (p .next) q)) q′ f
-          (took (record { answer = a; queue = withFree (q .free + 1) (withValues (p .next) q) }) (slot-free (withValues (p .next) q) rest-shaped received what NoToken b2 g woken a u y w))
+      pub took-free : b ≡ true → q′ ≡ withFree (q .free + 1) (withValues x q) → woken ≡ NoOne → Turned q (TryRecv s) a q′
+      took-free y h w =
+          turned-as q (TryRecv s) a (withFree (q .free + 1) (withValues x q)) q′ h
+          (took (record { answer = a; queue = withFree (q .free + 1) (withValues x q) }) (slot-free (withValues x q) rest-shaped received what NoToken b g woken a u y w))
 
-      pub took-granted : (c : CalledOne) → b2 ≡ false → CallsOne (q .outs) c → q′ ≡ withOuts (c .side) (withValues (p .next) q) → woken ≡ c .woken → Turned q (TryRecv s) a q′
-      took-granted c y x f w =
-          turned-as q (TryRecv s) a (withOuts (c .side) (withValues (p .next) q)) q′ f
-          (took (record { answer = a; queue = withOuts (c .side) (withValues (p .next) q) }) (slot-granted (withValues (p .next) q) rest-shaped received what NoToken b2 g woken a u c y x w))
+      pub took-granted : (c : CalledOne) → b ≡ false → CallsOne (q .outs) c → q′ ≡ withOuts (c .side) (withValues x q) → woken ≡ c .woken → Turned q (TryRecv s) a q′
+      took-granted c y z h w =
+          turned-as q (TryRecv s) a (withOuts (c .side) (withValues x q)) q′ h
+          (took (record { answer = a; queue = withOuts (c .side) (withValues x q) }) (slot-granted (withValues x q) rest-shaped received what NoToken b g woken a u c y z w))
 
 -- ---- kept_of, pollable
 pub kept-missing : (view : View) → view ≡ Missing → [] ≡ keptOf (viewed view)
@@ -189,12 +204,6 @@ open-told : (o : Option Deed) (q : model.Queue) (what : What) → what ≡ polla
 open-told none q what e n = absurd (n e)
 open-told (some op) q what e n = (op, refl, e)
 
-value-told : (l : List ℕ) (gone : Bool) (v : ℕ) → WValue v ≡ takableOf Pending l gone → l ≡ v ∷ ring.rest l
-unfolding ring.rest
-value-told [] true v e = let z : _≡_ {A = ℕ} 0 1 = cc in absurd (omega arith)
-value-told [] false v e = let z : _≡_ {A = ℕ} 0 1 = cc in absurd (omega arith)
-value-told (x ∷ l) gone v e = let z : v ≡ x = cc in ap (λ (y : ℕ). y ∷ l) (sym z)
-
 gone-told : (l : List ℕ) (gone : Bool) (c : Cargo) → Disconnected c ≡ takableOf Pending l gone → (l ≡ []) × (gone ≡ true) × (c ≡ Nothing)
 gone-told [] true c e = (refl, refl, cc)
 gone-told [] false c e = let z : _≡_ {A = ℕ} 0 1 = cc in absurd (omega arith)
@@ -204,10 +213,6 @@ pending-told : (l : List ℕ) (gone : Bool) → Pending ≡ takableOf Pending l 
 pending-told [] true e = let z : _≡_ {A = ℕ} 0 1 = cc in absurd (omega arith)
 pending-told [] false e = (refl, refl)
 pending-told (x ∷ l) gone e = let z : _≡_ {A = ℕ} 0 1 = cc in absurd (omega arith)
-
--- no arm of a match had this answer
-none-of : (ks : List ℕ) (what x : What) → OneOf ks (tagOf the-type what) → what ≡ x → T (not (hasKey ks (tagOf the-type x))) → ⊥
-none-of ks what x h e m = miss ks (tagOf the-type x) m (subst (λ (y : What). OneOf ks (tagOf the-type y)) e h)
 
 -- the tags that poll_in has no arm for: all but those of Value, Pending and Disconnected
 abbrev unpolled : List ℕ
@@ -240,22 +245,22 @@ module _ (q : Queue) (snd : Sound q) (n : ℕ) (view : View) (sees : Sees (q .in
     kept-of : (op : Deed) → viewed view ≡ some op → tokenList kept ≡ side.kept (op .stage)
     kept-of op f = y ∙ ap (λ (x : Option Deed). keptOf x) f
 
-    module _ (v : ℕ) (f : what ≡ WValue v) (o : Side) (x : Ends (q .ins) n o) (p : Popped) (k : Pops q p) where
+    module _ (v : ℕ) (f : what ≡ WValue v) (o : Side) (x : Ends (q .ins) n o) (p : Ring) (k : ring.Holds (ring.rest (ring.values (q .values))) p) where
       first-in : ring.values (q .values) ≡ v ∷ ring.rest (ring.values (q .values))
-      first-in = value-told (ring.values (q .values)) (model.noSender (queueOf q)) v (sym f ∙ of-value v f .3)
+      first-in = value-told Pending (ring.values (q .values)) (model.noSender (queueOf q)) v (λ h. let z : _≡_ {A = ℕ} 0 1 = cc in omega arith) (sym f ∙ of-value v f .3)
 
-      in-took : (r : Turn) → Releases what kept (withValues (p .next) (withIns o q)) r → Turned q (PollIn n t) (r .answer) (r .queue)
+      in-took : (r : Turn) → Releases what kept (withValues p (withIns o q)) r → Turned q (PollIn n t) (r .answer) (r .queue)
       unfolding step
       in-took r h =
-          let w : Releases (WValue v) kept (withValues (p .next) (withIns o q)) r = subst (λ (x : What). Releases x kept (withValues (p .next) (withIns o q)) r) f h in
+          let w : Releases (WValue v) kept (withValues p (withIns o q)) r = subst (λ (x : What). Releases x kept (withValues p (withIns o q)) r) f h in
           let op = of-value v f in
           does q (PollIn n t) _ r snd (w .does) refl
-          (ap₂ (λ (l : List ℕ) (i : side.Side model.Job). releasing model.VALUE (v ∷ []) (tokenList kept) (model.setValues l (model.setIns i (queueOf q)))) (k .2) (x .side)
+          (ap₂ (λ (l : List ℕ) (i : side.Side model.Job). releasing model.VALUE (v ∷ []) (tokenList kept) (model.setValues l (model.setIns i (queueOf q)))) (k .1) (x .side)
           ∙ (ap (λ (l : List ℕ). releasing model.VALUE (v ∷ []) l (model.setValues (ring.rest (ring.values (q .values))) (model.setIns (side.ended n (sideOf (q .ins))) (queueOf q)))) (kept-of (op .0) (op .2))
           ∙ sym (pollIn-value n t (queueOf q) (op .0) v (ring.rest (ring.values (q .values))) (op .1) first-in)))
 
-      in-shaped : Shaped (withValues (p .next) (withIns o q))
-      in-shaped = shaped-values (withIns o q) (shaped-ins q (snd .shaped) o (x .sound)) (p .next) (k .1)
+      in-shaped : Shaped (withValues p (withIns o q))
+      in-shaped = shaped-values (withIns o q) (shaped-ins q (snd .shaped) o (x .sound)) p (k .0)
 
       in-received : live (handlesOf (q .receivers)) ≡ 0 → ⊥
       in-received = receiver-left q snd v (ring.rest (ring.values (q .values))) first-in
@@ -264,17 +269,17 @@ module _ (q : Queue) (snd : Sound q) (n : ℕ) (view : View) (sees : Sees (q .in
         in-said : Says what (wokenTokens woken) (tokenList kept) a
         in-said = said-as what what woken woken retired kept a refl refl m u
 
-        pub in-free : b ≡ true → q′ ≡ withFree (q .free + 1) (withValues (p .next) (withIns o q)) → woken ≡ NoOne → Turned q (PollIn n t) a q′
+        pub in-free : b ≡ true → q′ ≡ withFree (q .free + 1) (withValues p (withIns o q)) → woken ≡ NoOne → Turned q (PollIn n t) a q′
         in-free d h w =
-            turned-as q (PollIn n t) a (withFree (q .free + 1) (withValues (p .next) (withIns o q))) q′ h
-            (in-took (record { answer = a; queue = withFree (q .free + 1) (withValues (p .next) (withIns o q)) })
-            (slot-free (withValues (p .next) (withIns o q)) in-shaped in-received what kept b g woken a in-said d w))
+            turned-as q (PollIn n t) a (withFree (q .free + 1) (withValues p (withIns o q))) q′ h
+            (in-took (record { answer = a; queue = withFree (q .free + 1) (withValues p (withIns o q)) })
+            (slot-free (withValues p (withIns o q)) in-shaped in-received what kept b g woken a in-said d w))
 
-        pub in-granted : (c : CalledOne) → b ≡ false → CallsOne (q .outs) c → q′ ≡ withOuts (c .side) (withValues (p .next) (withIns o q)) → woken ≡ c .woken → Turned q (PollIn n t) a q′
+        pub in-granted : (c : CalledOne) → b ≡ false → CallsOne (q .outs) c → q′ ≡ withOuts (c .side) (withValues p (withIns o q)) → woken ≡ c .woken → Turned q (PollIn n t) a q′
         in-granted c d z h w =
-            turned-as q (PollIn n t) a (withOuts (c .side) (withValues (p .next) (withIns o q))) q′ h
-            (in-took (record { answer = a; queue = withOuts (c .side) (withValues (p .next) (withIns o q)) })
-            (slot-granted (withValues (p .next) (withIns o q)) in-shaped in-received what kept b g woken a in-said c d z w))
+            turned-as q (PollIn n t) a (withOuts (c .side) (withValues p (withIns o q))) q′ h
+            (in-took (record { answer = a; queue = withOuts (c .side) (withValues p (withIns o q)) })
+            (slot-granted (withValues p (withIns o q)) in-shaped in-received what kept b g woken a in-said c d z w))
 
     pub in-ended : (c : Cargo) (o : Side) → what ≡ Disconnected c → Ends (q .ins) n o → q′ ≡ withIns o q → retired ≡ kept → woken ≡ NoOne → Turned q (PollIn n t) a q′
     unfolding step

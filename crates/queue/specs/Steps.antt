@@ -100,21 +100,6 @@ keptOf none = []
 keptOf (some op) = side.kept (op .stage)
 
 -- ---- tests
-abbrev pub isValue : What → Bool
-isValue Done = false
-isValue (Discarded n) = false
-isValue (WValue v) = true
-isValue (WGiven n) = false
-isValue Pending = false
-isValue (WStatus s) = false
-isValue (Full c) = false
-isValue Empty = false
-isValue (Disconnected c) = false
-isValue BadCapacity = false
-isValue NoHandle = false
-isValue InUse = false
-isValue NoRoom = false
-
 abbrev pub ready : side.Stage → ℕ → Bool
 ready st free = eqb (side.waits st) 0 && not (eqb free 0)
 

@@ -5,6 +5,7 @@ use crate::What;
 use crate::says::plain;
 use crate::says::say;
 use ring::Front;
+use ring::Ring;
 use side::Cargo;
 use side::OptToken;
 use side::Stage;
@@ -12,11 +13,12 @@ use side::View;
 use side::Woken;
 use tables::Number;
 ghost use mathlib.Core.Path.{_≡_};
+ghost use Rattle.ring.specs.Values as order;
 ghost use Rattle.side.specs.Meaning.{stageOf, viewed, tokenList};
 ghost use Rattle.model.specs.declared.Call.the-variants.{Recv, TryRecv, PollIn, CancelIn};
 ghost use Rattle.queue.specs.Meaning.{queueOf, Sound};
 ghost use Rattle.queue.specs.Promise.{Turned};
-ghost use Rattle.queue.specs.Steps.{isValue, takable, receivable, pollable, keptOf, passes};
+ghost use Rattle.queue.specs.Steps.{takable, receivable, pollable, keptOf, passes};
 
 // Does a cancelled operation at this stage pass its notice on? With these senders left and these values queued.
 fn passes_on(stage: Stage, left: u32, queued: usize) -> bool
@@ -44,25 +46,13 @@ fn kept_of(view: View) -> OptToken
     }
 }
 
-// Is the answer a value?
-fn is_value(what: What) -> bool
-    ensures { λ r. ⌜ r ≡ isValue what ⌝ }
+// The values without the first.
+fn without_first(queued: Ring) -> Ring
+    requires { ⌜ order.Sound queued ⌝ }
+    ensures { λ r. ⌜ order.Holds (order.rest (order.values queued)) r ⌝ }
 {
-    match what {
-        What::Done => false,
-        What::Discarded(_) => false,
-        What::Value(_) => true,
-        What::Given(_) => false,
-        What::Pending => false,
-        What::Status(_) => false,
-        What::Full(_) => false,
-        What::Empty => false,
-        What::Disconnected(_) => false,
-        What::BadCapacity => false,
-        What::NoHandle => false,
-        What::InUse => false,
-        What::NoRoom => false,
-    }
+    let popped = queued.pop_front();
+    popped.next
 }
 
 impl Queue {
@@ -135,20 +125,21 @@ impl Queue {
     {
         let what = self.receivable(r);
         let mut woken = Woken::Nobody;
-        if is_value(what) {
-            let values = self.values;
-            let popped = values.pop_front();
-            let next = popped.next;
-            self.values = next;
-            let outs = self.outs;
-            if outs.line_is_empty() {
-                self.free = self.free + 1;
-            } else {
-                let called = outs.call_first();
-                woken = called.woken;
-                let side = called.side;
-                self.outs = side;
+        match what {
+            What::Value(_) => {
+                let values = self.values;
+                self.values = without_first(values);
+                let outs = self.outs;
+                if outs.line_is_empty() {
+                    self.free = self.free + 1;
+                } else {
+                    let called = outs.call_first();
+                    woken = called.woken;
+                    let side = called.side;
+                    self.outs = side;
+                }
             }
+            _ => {}
         }
         let answer = say(what, woken, OptToken::NoToken);
         Turn {
@@ -181,9 +172,7 @@ impl Queue {
             What::Value(_) => {
                 self.ins = ins.end(n);
                 let values = self.values;
-                let popped = values.pop_front();
-                let next = popped.next;
-                self.values = next;
+                self.values = without_first(values);
                 let outs = self.outs;
                 if outs.line_is_empty() {
                     self.free = self.free + 1;
@@ -194,9 +183,7 @@ impl Queue {
                     self.outs = side;
                 }
             }
-            What::Disconnected(_) => {
-                self.ins = ins.end(n);
-            }
+            What::Disconnected(_) => self.ins = ins.end(n),
             What::Pending => {
                 let pended = ins.pend(n, token);
                 retired = pended.retired;

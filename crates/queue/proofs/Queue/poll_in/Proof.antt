@@ -24,14 +24,14 @@ end-requires c κs =
     let g = c .before .before .before .before .get in
     (s .pre .shaped .ins, open-value _ (s .pre) _ (g .result) (g .ensures) _ (c .before .before .before .pollable .ensures) _ (c .enum-told .given .1))
 
-pop-front-requires : tie.Need-pop-front-requires
-pop-front-requires c κs = search needs
+without-first-requires : tie.Need-without-first-requires
+without-first-requires c κs = search needs
 
 line-is-empty-requires : tie.Need-line-is-empty-requires
 line-is-empty-requires c κs = search needs
 
 add-self : tie.Need-add-self
-add-self c = slot-fits _ (c .before .before .before .before .before .before .before .before .before .before .before .before .before .before .pre)
+add-self c = slot-fits _ (c .before .before .before .before .before .before .before .before .before .before .before .before .before .pre)
 
 call-first-requires : tie.Need-call-first-requires
 call-first-requires c κs = search needs
@@ -65,9 +65,9 @@ returns c =
     let k = c .before .before .kept-of in
     let says = c .say .ensures in
     ⊎-elim
-    (λ w. in-free _ (s .pre) _ (g .result) (g .ensures) _ told _ (k .result) (k .ensures) _ _ _ says _ _ (w .1 .given .1) _ (w .2 .ensures) _ (w .4 .ensures) _ (w .7 .ensures) (w .11) (w .8 .taken) (w .10) (w .12))
+    (λ w. in-free _ (s .pre) _ (g .result) (g .ensures) _ told _ (k .result) (k .ensures) _ _ _ says _ _ (w .1 .given .1) _ (w .2 .ensures) _ (w .4 .ensures) _ (w .6 .ensures) (w .10) (w .7 .taken) (w .9) (w .11))
     (⊎-elim
-    (λ w. in-granted _ (s .pre) _ (g .result) (g .ensures) _ told _ (k .result) (k .ensures) _ _ _ says _ _ (w .1 .given .1) _ (w .2 .ensures) _ (w .4 .ensures) _ (w .7 .ensures) (w .12) _ (w .8 .left) (w .9 .ensures) (w .11) (w .13))
+    (λ w. in-granted _ (s .pre) _ (g .result) (g .ensures) _ told _ (k .result) (k .ensures) _ _ _ says _ _ (w .1 .given .1) _ (w .2 .ensures) _ (w .4 .ensures) _ (w .6 .ensures) (w .11) _ (w .7 .left) (w .8 .ensures) (w .10) (w .12))
     (⊎-elim
     (λ w. in-ended _ (s .pre) _ (g .result) (g .ensures) _ told _ (k .result) (k .ensures) _ _ _ says _ _ _ (w .1 .given .1) (w .2 .ensures) (w .3) (w .4) (w .5))
     (⊎-elim
@@ -84,7 +84,7 @@ poll-in-spec =
     kept-of-requires
     enum-told
     end-requires
-    pop-front-requires
+    without-first-requires
     line-is-empty-requires
     add-self
     call-first-requires

@@ -9,17 +9,17 @@ use Rattle.queue.proofs.Queue.try_recv.Tie as tie
 receivable-requires : tie.Need-receivable-requires
 receivable-requires c κs = search needs
 
-is-value-requires : tie.Need-is-value-requires
-is-value-requires c κs = search needs
+enum-told : tie.Need-enum-told
+enum-told c = search needs
 
-pop-front-requires : tie.Need-pop-front-requires
-pop-front-requires c κs = search needs
+without-first-requires : tie.Need-without-first-requires
+without-first-requires c κs = search needs
 
 line-is-empty-requires : tie.Need-line-is-empty-requires
 line-is-empty-requires c κs = search needs
 
 add-self : tie.Need-add-self
-add-self c = slot-fits _ (c .before .before .before .before .before .before .before .before .before .before .pre)
+add-self c = slot-fits _ (c .before .before .before .before .before .before .before .before .before .pre)
 
 call-first-requires : tie.Need-call-first-requires
 call-first-requires c κs = search needs
@@ -29,24 +29,23 @@ say-requires c κs = search needs
 
 returns : tie.Need-returns
 returns c =
-    let s = c .before .before .before .before in
-    let told = c .before .before .before .receivable .ensures in
-    let asked = c .before .before .is-value .ensures in
+    let s = c .before .before .before in
+    let told = c .before .before .receivable .ensures in
     let says = c .say .ensures in
     ⊎-elim
-    (λ w. took-free _ (s .pre) _ _ told _ asked _ _ says _ (w .0 .taken) _ (w .2 .ensures) _ (w .5 .ensures) (w .6 .taken) (w .8) (w .9))
+    (λ w. took-free _ (s .pre) _ _ told _ _ says _ _ (w .1 .given .1) _ (w .3 .ensures) _ (w .5 .ensures) (w .6 .taken) (w .8) (w .9))
     (⊎-elim
-    (λ w. took-granted _ (s .pre) _ _ told _ asked _ _ says _ (w .0 .taken) _ (w .2 .ensures) _ (w .5 .ensures) _ (w .6 .left) (w .7 .ensures) (w .9) (w .10))
-    (λ w. took-nothing _ (s .pre) _ _ told _ asked _ _ says _ (w .0 .left) (w .1) (w .2)))
-    (c .before .if1 .came)
+    (λ w. took-granted _ (s .pre) _ _ told _ _ says _ _ (w .1 .given .1) _ (w .3 .ensures) _ (w .5 .ensures) _ (w .6 .left) (w .7 .ensures) (w .9) (w .10))
+    (λ w. took-nothing _ (s .pre) _ _ told _ _ says _ (w .0 .keys2) (w .1) (w .2)))
+    (c .before .match .came)
 
 pub try-recv-spec : {M : Type 1} → statement M
 try-recv-spec =
     tie.close
     (tie.spec
     receivable-requires
-    is-value-requires
-    pop-front-requires
+    enum-told
+    without-first-requires
     line-is-empty-requires
     add-self
     call-first-requires
