@@ -1,6 +1,6 @@
 -- The exits of reserve and send, poll_out and cancel_out, where the arms of a call meet: the queue and the answer's case are variables there,
 -- which each arm ties to its own by an equation. Assumes nothing.
-use Prim.Native.Nat.{ℕ, _-_, _<_}
+use Prim.Native.Nat.{ℕ, _+_, _-_, _<_}
 use mathlib.Core.Path.{_≡_, refl, sym, ap, _∙_, subst}
 use mathlib.Core.Bool.{Bool, true, false, not}
 use mathlib.Core.List.{List, [], _∷_, _++_}
@@ -28,15 +28,16 @@ use Rattle.side.specs.declared.Woken.{Woken}
 use Rattle.side.specs.declared.Woken.the-variants.{Nobody}
 use Rattle.side.specs.declared.Entry.{Entry}
 use Rattle.side.specs.declared.View.{View}
-use Rattle.side.specs.declared.View.the-variants.{Found}
+use Rattle.side.specs.declared.View.the-variants.{Missing, Found}
 use Rattle.side.specs.declared.Opened.{Opened}
 use Rattle.side.specs.declared.Pended.{Pended}
 use Rattle.side.specs.declared.CalledOne.{CalledOne}
 use Rattle.side.specs.Meaning.{sideOf, stageOf, tokenList, wokenTokens}
 use Rattle.side.specs.Calls.{Open, Sees, Opens, Ends, Pends, CallsOne}
 use Rattle.model.specs.Table.{lookup, live, size}
+use Rattle.model.specs.Side as side
 use Rattle.model.specs.declared.Call.{Call}
-use Rattle.model.specs.declared.Call.the-variants.{PollOut}
+use Rattle.model.specs.declared.Call.the-variants.{PollOut, CancelOut}
 use Rattle.queue.specs.declared.Queue.{Queue}
 use Rattle.queue.specs.declared.What.{What}
 use Rattle.queue.specs.declared.What.the-variants.{Done, Given as WGiven, Pending, Disconnected, NoHandle, NoRoom}
@@ -46,11 +47,12 @@ use Rattle.queue.specs.declared.outgoing.Outcome.{Outcome}
 use Rattle.queue.specs.declared.outgoing.Outcome.the-variants.{NoHandle as NoOperation, Gone, Permit, Push, Stays}
 use Rattle.queue.specs.Meaning.{Shaped, Sound}
 use Rattle.queue.specs.Promise.{Turned}
-use Rattle.queue.specs.Steps.{Says, Notifies, Completes, opening, ready, withSlot, Slot, Comes, givenBy}
+use Rattle.queue.specs.Steps.{Says, Notifies, Releases, Completes, opening, ready, withSlot, Slot, Comes, givenBy}
 use Rattle.queue.specs.Steps as steps
 use Rattle.queue.proofs.Settled.{kept, withValues, withFree, withPermits, withOuts, withIns, owner-fits, found-open}
 use Rattle.queue.proofs.Sending.{out-dead, out-full, out-given, notify-nobody, notify-one, pushed, shaped-pushed, complete-push, complete-given, spare, ready-free}
-use Rattle.queue.proofs.Sending.{poll-dead, sees-found, poll-gone, poll-granted, poll-room, poll-pending, granted, room-granted, room-ready, shaped-taken}
+use Rattle.queue.proofs.Sending.{poll-dead, sees-found, poll-gone, poll-granted, poll-room, poll-pending, granted, room-granted, room-ready, shaped-ended, shaped-taken}
+use Rattle.queue.proofs.Sending.{release-gone, release-free, release-grant, cancel-dead, cancel-granted, cancel-other}
 
 -- ---- along the equations of an arm
 told : (q : Queue) (c : Call) (a : Answer) (q′ q″ : Queue) → q″ ≡ q′ → Turned q c a q′ → Turned q c a q″
@@ -58,6 +60,13 @@ told q c a q′ q″ e t = subst (λ (x : Queue). Turned q c a x) (sym e) t
 
 saying : (what what′ : What) (w t : List ℕ) (a : Answer) → what ≡ what′ → Says what w t a → Says what′ w t a
 saying what what′ w t a e u = subst (λ (x : What). Says x w t a) e u
+
+said-as : (what : What) (woken : Woken) (retired : OptToken) (a : Answer) → Says what (wokenTokens woken) (tokenList retired) a → (what′ : What) (woken′ : Woken) (retired′ : OptToken)
+    → what ≡ what′ → woken ≡ woken′ → retired ≡ retired′ → Says what′ (wokenTokens woken′) (tokenList retired′) a
+said-as what woken retired a u what′ woken′ retired′ x y z =
+    subst (λ (i : What). Says i (wokenTokens woken′) (tokenList retired′) a) x
+    (subst (λ (i : Woken). Says what (wokenTokens i) (tokenList retired′) a) y
+    (subst (λ (i : OptToken). Says what (wokenTokens woken) (tokenList i) a) z u))
 
 -- ---- open_out
 pub owner-small : (h : Handles) (n : ℕ) (b : Bool) → HandlesSound h → b ≡ isLive (lookup (handlesOf h) n) → b ≡ true → Fits w8 n
@@ -157,27 +166,21 @@ module _ (q : Queue) (snd : Sound q) (n t : ℕ) (k : ℕ) (g : k ≡ live (hand
     room-push v f e = let y = by (Push v f) e in slot-room (y .0) (at (y .0) (y .1)) (y .2) f (y .4)
 
     module _ (what : What) (woken : Woken) (retired : OptToken) (a : Answer) (u : Says what (wokenTokens woken) (tokenList retired) a) (q′ : Queue) where
-      said-as : (what′ : What) (woken′ : Woken) (retired′ : OptToken) → what ≡ what′ → woken ≡ woken′ → retired ≡ retired′ → Says what′ (wokenTokens woken′) (tokenList retired′) a
-      said-as what′ woken′ retired′ x y z =
-          subst (λ (i : What). Says i (wokenTokens woken′) (tokenList retired′) a) x
-          (subst (λ (i : Woken). Says what (wokenTokens i) (tokenList retired′) a) y
-          (subst (λ (i : OptToken). Says what (wokenTokens woken) (tokenList i) a) z u))
-
       pub polled-dead : plan ≡ NoOperation → q′ ≡ q → what ≡ NoHandle → woken ≡ Nobody → retired ≡ NoToken → Turned q (PollOut n t) a q′
-      polled-dead e i x y z = told q (PollOut n t) a q q′ i (poll-dead q n t view a snd sees (by NoOperation e) (said-as NoHandle Nobody NoToken x y z))
+      polled-dead e i x y z = told q (PollOut n t) a q q′ i (poll-dead q n t view a snd sees (by NoOperation e) (said-as what woken retired a u NoHandle Nobody NoToken x y z))
 
       pub polled-gone : (c : Cargo) (o : Side) → plan ≡ Gone c → Ends (q .outs) n o → q′ ≡ withOuts o q → what ≡ Disconnected c → woken ≡ Nobody → retired ≡ NoToken → Turned q (PollOut n t) a q′
       polled-gone c o e d i x y z =
           let h = by (Gone c) e in
           told q (PollOut n t) a (withOuts o q) q′ i
           (poll-gone q snd n t (h .0) (at (h .0) (h .1)) k g o a (h .2) d
-          (said-as (Disconnected (h .0 .cargo)) Nobody NoToken (x ∙ ap Disconnected (sym (h .3))) y z))
+          (said-as what woken retired a u (Disconnected (h .0 .cargo)) Nobody NoToken (x ∙ ap Disconnected (sym (h .3))) y z))
 
       pub polled-pending : (p : Pended) → plan ≡ Stays → Pends (q .outs) n t p → q′ ≡ withOuts (p .side) q → what ≡ Pending → woken ≡ Nobody → retired ≡ p .retired → Turned q (PollOut n t) a q′
       polled-pending p e d i x y z =
           let h = by Stays e in
           told q (PollOut n t) a (withOuts (p .side) q) q′ i
-          (poll-pending q snd n t (h .0) (at (h .0) (h .1)) k g (h .2) _ refl (h .3) _ refl p a (h .4) d (said-as Pending Nobody (p .retired) x y z))
+          (poll-pending q snd n t (h .0) (at (h .0) (h .1)) k g (h .2) _ refl (h .3) _ refl p a (h .4) d (said-as what woken retired a u Pending Nobody (p .retired) x y z))
 
       module _ (f : ℕ) (o : Side) (d : Ends (q .outs) n o) where
         pub polled-permit : (s : ℕ) (p : Given) → plan ≡ Permit s f → Gives (q .permits) s p → q′ ≡ withPermits (p .permits) (withFree f (withOuts o q)) → what ≡ givenBy (p .number)
@@ -190,7 +193,7 @@ module _ (q : Queue) (snd : Sound q) (n t : ℕ) (k : ℕ) (g : k ≡ live (hand
             told q (PollOut n t) a (withPermits (p .permits) (withFree f (withOuts o q))) q′ i
             (slot-taken (h .0) (at (h .0) (h .1)) (h .2) f (h .5) o (record { answer = a; queue = withPermits (p .permits) (withFree f (withOuts o q)) }) d
             (complete-given (withFree f (withOuts o q)) (shaped-taken q n o f snd d) (h .0 .cargo) (h .0 .owner) (h .3) p l′ (b .0) a w
-            (said-as (WGiven (b .0)) Nobody NoToken (x ∙ ap givenBy w) y z)))
+            (said-as what woken retired a u (WGiven (b .0)) Nobody NoToken (x ∙ ap givenBy w) y z)))
 
         module _ (v : ℕ) (e : plan ≡ Push v f) (r : Ring) (l : (ring.Sound r) × (ring.values r ≡ ring.values (q .values) ++ (v ∷ []))) where
           pushing : (x : Turn) → Notifies (withValues r (withFree f (withOuts o q))) x → Turned q (PollOut n t) (x .answer) (x .queue)
@@ -208,11 +211,45 @@ module _ (q : Queue) (snd : Sound q) (n t : ℕ) (k : ℕ) (g : k ≡ live (hand
             polled-quiet j i x y z =
                 told q (PollOut n t) a (withValues r (withFree f (withOuts o q))) q′ i
                 (pushing (record { answer = a; queue = withValues r (withFree f (withOuts o q)) })
-                (notify-nobody (withValues r (withFree f (withOuts o q))) shape a b h j (said-as Done Nobody NoToken x y z)))
+                (notify-nobody (withValues r (withFree f (withOuts o q))) shape a b h j (said-as what woken retired a u Done Nobody NoToken x y z)))
 
           pub polled-notified : (c : CalledOne) → CallsOne (q .ins) c → q′ ≡ withIns (c .side) (withValues r (withFree f (withOuts o q))) → what ≡ Done → woken ≡ c .woken → retired ≡ NoToken
               → Turned q (PollOut n t) a q′
           polled-notified c j i x y z =
               told q (PollOut n t) a (withIns (c .side) (withValues r (withFree f (withOuts o q)))) q′ i
               (pushing (record { answer = a; queue = withIns (c .side) (withValues r (withFree f (withOuts o q))) })
-              (notify-one (withValues r (withFree f (withOuts o q))) shape c a j (said-as Done (c .woken) NoToken x y z)))
+              (notify-one (withValues r (withFree f (withOuts o q))) shape c a j (said-as what woken retired a u Done (c .woken) NoToken x y z)))
+
+-- ---- cancel_out
+module _ (q : Queue) (snd : Sound q) (n : ℕ) (view : View) (sees : Sees (q .outs) n view) where
+  module _ (what : What) (woken : Woken) (retired : OptToken) (a : Answer) (u : Says what (wokenTokens woken) (tokenList retired) a) (q′ : Queue) where
+    pub cancelled-dead : view ≡ Missing → q′ ≡ q → what ≡ NoHandle → woken ≡ Nobody → retired ≡ NoToken → Turned q (CancelOut n) a q′
+    cancelled-dead e i x y z = told q (CancelOut n) a q q′ i (cancel-dead q snd n view sees a e (said-as what woken retired a u NoHandle Nobody NoToken x y z))
+
+    module _ (e : Entry) (f : view ≡ Found e) (o : Side) (d : Ends (q .outs) n o) (b : Bool) (h : b ≡ steps.granted e) where
+      pub cancelled-other : (k : OptToken) → b ≡ false → tokenList k ≡ side.kept (stageOf (e .stage)) → q′ ≡ withOuts o q → what ≡ Done → woken ≡ Nobody → retired ≡ k → Turned q (CancelOut n) a q′
+      cancelled-other k j l i x y z =
+          told q (CancelOut n) a (withOuts o q) q′ i (cancel-other q snd n view sees e f o d b h k a j l (said-as what woken retired a u Done Nobody k x y z))
+
+      module _ (y : b ≡ true) (m : ℕ) (g : m ≡ live (handlesOf (q .receivers))) (v : what ≡ Done) (t : retired ≡ NoToken) where
+        releases : (r : Turn) → Releases Done NoToken (withOuts o q) r → Turned q (CancelOut n) (r .answer) (r .queue)
+        releases r l = cancel-granted q snd n view sees e f o d b h NoToken r refl y l
+
+        pub cancelled-gone : m ≡ 0 → q′ ≡ withOuts o q → woken ≡ Nobody → Turned q (CancelOut n) a q′
+        cancelled-gone z i w =
+            told q (CancelOut n) a (withOuts o q) q′ i
+            (releases (record { answer = a; queue = withOuts o q })
+            (release-gone (withOuts o q) (shaped-ended q n o snd d) Done NoToken m g a z (said-as what woken retired a u Done Nobody NoToken v w t)))
+
+        module _ (z : m ≡ 0 → ⊥) (l : Bool) (j : l ≡ isNil (sideOf o .line)) where
+          pub cancelled-freed : l ≡ true → q′ ≡ withFree (q .free + 1) (withOuts o q) → woken ≡ Nobody → Turned q (CancelOut n) a q′
+          cancelled-freed k i w =
+              told q (CancelOut n) a (withFree (q .free + 1) (withOuts o q)) q′ i
+              (releases (record { answer = a; queue = withFree (q .free + 1) (withOuts o q) })
+              (release-free (withOuts o q) (shaped-ended q n o snd d) Done NoToken m g z l j a k (said-as what woken retired a u Done Nobody NoToken v w t)))
+
+          pub cancelled-granted : (c : CalledOne) → l ≡ false → CallsOne o c → q′ ≡ withOuts (c .side) q → woken ≡ c .woken → Turned q (CancelOut n) a q′
+          cancelled-granted c k r i w =
+              told q (CancelOut n) a (withOuts (c .side) q) q′ i
+              (releases (record { answer = a; queue = withOuts (c .side) q })
+              (release-grant (withOuts o q) (shaped-ended q n o snd d) Done NoToken m g z l j c a k r (said-as what woken retired a u Done (c .woken) NoToken v w t)))

@@ -401,33 +401,43 @@ impl Queue {
         }
     }
 
+    // A slot that was granted comes back, as `release` has it; an operation in line hands its token back.
     pub fn cancel_out(mut self, n: u32) -> Turn
         requires { ⌜ Sound self ⌝ }
         ensures { λ r. ⌜ Turned self (CancelOut n) (r .answer) (r .queue) ⌝ }
     {
+        let mut what = What::NoHandle;
+        let mut woken = Woken::Nobody;
+        let mut retired = OptToken::NoToken;
         let outs = self.outs;
         let view = outs.get(n);
         match view {
-            View::Missing => {
-                let answer = plain(What::NoHandle);
-                Turn {
-                    answer: answer,
-                    queue: self,
-                }
-            }
+            View::Missing => {}
             View::Found(op) => {
+                what = What::Done;
                 let stage = op.stage;
-                self.outs = outs.end(n);
+                let rest = outs.end(n);
+                self.outs = rest;
                 if stage.is_called() {
-                    return self.release(What::Done, OptToken::NoToken);
-                }
-                let kept = stage.kept();
-                let answer = say(What::Done, Woken::Nobody, kept);
-                Turn {
-                    answer: answer,
-                    queue: self,
+                    let receivers = self.receivers;
+                    let left = receivers.count();
+                    if left == 0 {} else if rest.line_is_empty() {
+                        self.free = self.free + 1;
+                    } else {
+                        let called = rest.call_first();
+                        woken = called.woken;
+                        let side = called.side;
+                        self.outs = side;
+                    }
+                } else {
+                    retired = stage.kept();
                 }
             }
+        }
+        let answer = say(what, woken, retired);
+        Turn {
+            answer: answer,
+            queue: self,
         }
     }
 

@@ -1,7 +1,11 @@
--- `queue::Queue::cancel_out` meets its contract.
+-- `queue::Queue::cancel_out` meets its contract. Its arms meet before the one exit: no such operation; a grant with no receiver left, with
+-- nobody in line, and with somebody in line; no grant.
 -- Assumes nothing.
-use Rattle.queue.proofs.Sending.{cancel-dead, cancel-granted, cancel-other, cancel-open, shaped-ended}
+use mathlib.Core.Logic.{⊎-elim}
+use Rattle.queue.proofs.Sending.{cancel-open}
 use Rattle.queue.proofs.Settled.{free-small}
+use Rattle.queue.proofs.Polled.{cancelled-dead, cancelled-gone, cancelled-freed, cancelled-granted, cancelled-other}
+use native.Mathlib.Omega.{arith}
 use borrow.Author.Needs.{needs}
 use Rattle.queue.proofs.Queue.cancel_out.Statement.{statement}
 use Rattle.queue.proofs.Queue.cancel_out.Tie as tie
@@ -12,9 +16,6 @@ get-requires c κs = search needs
 enum-told : tie.Need-enum-told
 enum-told c = search needs
 
-plain-requires : tie.Need-plain-requires
-plain-requires c κs = search needs
-
 enum-known-view : tie.Need-enum-known-view
 enum-known-view c = search needs
 
@@ -24,11 +25,17 @@ end-requires c κs = search (needs, cancel-open)
 is-called-requires : tie.Need-is-called-requires
 is-called-requires c κs = search needs
 
-release-requires : tie.Need-release-requires
-release-requires c κs = search (free-small, shaped-ended)
+count-requires : tie.Need-count-requires
+count-requires c κs = search needs
 
-returns : tie.Need-returns
-returns c = search cancel-granted
+line-is-empty-requires : tie.Need-line-is-empty-requires
+line-is-empty-requires c κs = search needs
+
+add-self : tie.Need-add-self
+add-self c = omega (arith, free-small _ (c .before .before .before .before .before .before .before .before .before .before .before .before .before .before .pre))
+
+call-first-requires : tie.Need-call-first-requires
+call-first-requires c κs = search needs
 
 kept-requires : tie.Need-kept-requires
 kept-requires c κs = search needs
@@ -36,11 +43,12 @@ kept-requires c κs = search needs
 say-requires : tie.Need-say-requires
 say-requires c κs = search needs
 
-returns-2 : tie.Need-returns-2
-returns-2 c = search cancel-dead
-
-returns-3 : tie.Need-returns-3
-returns-3 c = search cancel-other
+returns : tie.Need-returns
+returns c =
+    ⊎-elim
+    (λ w. search cancelled-dead)
+    (λ v2. ⊎-elim (λ w. search cancelled-gone) (λ v3. ⊎-elim (λ w. search cancelled-freed) (λ v4. ⊎-elim (λ w. search cancelled-granted) (λ w. search cancelled-other) v4) v3) v2)
+    (c .before .match .came)
 
 pub cancel-out-spec : {M : Type 1} → statement M
 cancel-out-spec =
@@ -48,13 +56,13 @@ cancel-out-spec =
     (tie.spec
     get-requires
     enum-told
-    plain-requires
     enum-known-view
     end-requires
     is-called-requires
-    release-requires
-    returns
+    count-requires
+    line-is-empty-requires
+    add-self
+    call-first-requires
     kept-requires
     say-requires
-    returns-2
-    returns-3)
+    returns)
