@@ -1,4 +1,5 @@
 pub mod Settled
+pub mod Moves
 pub mod Sending
 pub mod Sent
 pub mod Polled

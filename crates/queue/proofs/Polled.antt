@@ -47,8 +47,9 @@ use Rattle.queue.specs.declared.outgoing.Outcome.{Outcome}
 use Rattle.queue.specs.declared.outgoing.Outcome.the-variants.{NoHandle as NoOperation, Gone, Permit, Push, Stays}
 use Rattle.queue.specs.Meaning.{Shaped, Sound}
 use Rattle.queue.specs.Promise.{Turned}
-use Rattle.queue.specs.Steps.{Says, Notifies, Releases, Completes, opening, ready, withSlot, Slot, Comes, givenBy}
+use Rattle.queue.specs.Steps.{Says, opening, ready, withSlot, Slot, Comes, givenBy}
 use Rattle.queue.specs.Steps as steps
+use Rattle.queue.proofs.Moves.{Notifies, Releases, Completes}
 use Rattle.queue.proofs.Settled.{kept, withValues, withFree, withPermits, withOuts, withIns, owner-fits, found-open}
 use Rattle.queue.proofs.Sending.{out-dead, out-full, out-given, notify-nobody, notify-one, pushed, shaped-pushed, complete-push, complete-given, spare, ready-free}
 use Rattle.queue.proofs.Sending.{poll-dead, sees-found, poll-gone, poll-granted, poll-room, poll-pending, granted, room-granted, room-ready, shaped-ended, shaped-taken}

@@ -36,7 +36,8 @@ use Rattle.queue.specs.declared.Answer.{Answer}
 use Rattle.queue.specs.declared.Turn.{Turn}
 use Rattle.queue.specs.Meaning.{queueOf, Sound}
 use Rattle.queue.specs.Promise.{Turned}
-use Rattle.queue.specs.Steps.{Says, Notifies, passes}
+use Rattle.queue.specs.Steps.{Says, passes}
+use Rattle.queue.proofs.Moves.{Notifies}
 use Rattle.queue.proofs.Settled.{stays, moves, does, withIns, shaped-ins, dead, alive}
 
 -- ---- recv

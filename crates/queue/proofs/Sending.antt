@@ -52,7 +52,8 @@ use Rattle.queue.specs.declared.Turn.{Turn}
 use Rattle.queue.specs.Meaning.{queueOf, Shaped, Sound}
 use Rattle.queue.specs.Answers.{codeOf, fieldOf, resultOf}
 use Rattle.queue.specs.Promise.{Turned}
-use Rattle.queue.specs.Steps.{Says, Notifies, Pushes, Releases, releasing, Completes, opening, ready}
+use Rattle.queue.specs.Steps.{Says, opening, ready}
+use Rattle.queue.proofs.Moves.{Notifies, Pushes, Releases, releasing, Completes}
 use Rattle.queue.proofs.Settled.{kept, stays, moves, does, withValues, withFree, withPermits, withOuts, withIns}
 use Rattle.queue.proofs.Settled.{shaped-values, shaped-free, shaped-permits, shaped-outs, shaped-ins, dead, alive, none-left, some-left}
 

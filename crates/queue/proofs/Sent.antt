@@ -40,7 +40,8 @@ use Rattle.queue.specs.declared.Turn.{Turn}
 use Rattle.queue.specs.Meaning.{queueOf, Shaped, Sound}
 use Rattle.queue.specs.Answers.{codeOf, fieldOf}
 use Rattle.queue.specs.Promise.{Turned}
-use Rattle.queue.specs.Steps.{Says, Pushes, isDone, tried, sends, givenBy}
+use Rattle.queue.specs.Steps.{Says, isDone, tried, sends, givenBy}
+use Rattle.queue.proofs.Moves.{Pushes}
 use Rattle.queue.proofs.Settled.{kept, stays, does, withValues, withFree, withPermits, withOuts, withIns}
 use Rattle.queue.proofs.Settled.{shaped-free, owner-fits, none-left, some-left}
 use Rattle.queue.proofs.Sending.{notify-nobody, notify-one, pushed, shaped-pushed, release-gone, release-free, release-grant, room-free}

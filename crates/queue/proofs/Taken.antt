@@ -49,7 +49,8 @@ use Rattle.queue.specs.declared.Turn.{Turn}
 use Rattle.queue.specs.Meaning.{queueOf, Shaped, Sound}
 use Rattle.queue.specs.Answers.{codeOf, fieldOf}
 use Rattle.queue.specs.Promise.{Turned}
-use Rattle.queue.specs.Steps.{Says, Notifies, Releases, releasing, takable, takableOf, receivable, receivableOf, pollable, keptOf, passes}
+use Rattle.queue.specs.Steps.{Says, takable, takableOf, receivable, receivableOf, pollable, keptOf, passes}
+use Rattle.queue.proofs.Moves.{Notifies, Releases, releasing}
 use Rattle.queue.proofs.Settled.{kept, stays, moves, does, withValues, withFree, withOuts, withIns, shaped-values, shaped-ins, dead, alive, none-left, some-left, owner-fits, free-small, found-open}
 use Rattle.queue.proofs.Sending.{notify-nobody, notify-one, release-free, release-grant, sees-found}
 use Rattle.queue.proofs.Receiving.{Pops, first-value, first-nothing, recv-dead, recv-full, recv-given, leave-in-dead, leave-in-passed, leave-in-other}

@@ -44,22 +44,6 @@ pub record Does (want : model.Result) (r : Turn) : Type 0 where
   pub is : resultOf (r .answer) (r .queue) ≡ want
 
 -- ---- moves that end a call
-pub record Notifies (q : Queue) (r : Turn) : Type 0 where
-  pub does : Does (model.doneBy (model.notify (queueOf q))) r
-
-pub record Pushes (v : ℕ) (q : Queue) (r : Turn) : Type 0 where
-  pub does : Does (model.doneBy (model.push v (queueOf q))) r
-
--- a slot comes back in a call with this answer and this retired token
-abbrev pub releasing : ℕ → List ℕ → List ℕ → model.Queue → model.Result
-releasing code field retired q = let mv = model.release q in model.reply code field (mv .wakes) retired (mv .next)
-
-pub record Releases (what : What) (retired : OptToken) (q : Queue) (r : Turn) : Type 0 where
-  pub does : Does (releasing (codeOf what) (fieldOf what) (tokenList retired) (queueOf q)) r
-
-pub record Completes (c : Cargo) (s : ℕ) (q : Queue) (r : Turn) : Type 0 where
-  pub does : Does (model.complete (carried c) s (queueOf q) (queueOf q)) r
-
 -- what the last receiver's drop leaves, of the queue without that receiver; and the last sender's
 abbrev pub discarded : model.Queue → model.Result
 discarded q = model.reply model.DONE (length (q .values) ∷ []) (side.allTokens (q .outs)) [] (model.setValues [] (model.setOuts (side.closedLine (q .outs)) q))

@@ -13,14 +13,12 @@ use side::View;
 use side::Woken;
 use tables::Number;
 ghost use mathlib.Core.Path.{_≡_};
-ghost use lib.ListN.{length};
-ghost use Prim.Native.Nat.{_<_, _≤_};
 ghost use Rattle.side.specs.declared.View.the-variants.{Found};
 ghost use Rattle.side.specs.Meaning.{stageOf};
 ghost use Rattle.model.specs.declared.Call.the-variants.{TrySend, TryRes, Reserve, Send, PollOut, CancelOut, PermitSend, PermitDrop};
 ghost use Rattle.queue.specs.Meaning.{queueOf, Shaped, Sound};
 ghost use Rattle.queue.specs.Promise.{Turned};
-ghost use Rattle.queue.specs.Steps.{Notifies, Pushes, Releases, Completes, opening, ready, isDone, sends, givenBy, withSlot, Comes};
+ghost use Rattle.queue.specs.Steps.{opening, ready, isDone, sends, givenBy, withSlot, Comes};
 
 // May an operation at this stage take a free slot? Not one that waits in line.
 fn is_ready(stage: Stage, free: u32) -> bool
@@ -119,79 +117,6 @@ fn given(number: Number) -> What
 }
 
 impl Queue {
-    // Done, and the first receiver in line, if any, is notified. The side is read anew where someone waits, so that an empty line costs no copy.
-    pub(crate) fn notify(mut self) -> Turn
-        requires { ⌜ Shaped self ⌝ }
-        ensures { λ r. ⌜ Notifies self r ⌝ }
-    {
-        let waiting = self.ins;
-        if waiting.line_is_empty() {
-            let answer = plain(What::Done);
-            return Turn {
-                answer: answer,
-                queue: self,
-            };
-        }
-        let ins = self.ins;
-        let called = ins.call_first();
-        let woken = called.woken;
-        let side = called.side;
-        self.ins = side;
-        let answer = say(What::Done, woken, OptToken::NoToken);
-        Turn {
-            answer: answer,
-            queue: self,
-        }
-    }
-
-    // Done: the value goes to the end, and the first receiver in line, if any, is notified.
-    fn push(mut self, v: u32) -> Turn
-        requires { ⌜ Shaped self ⌝ }
-        requires { ⌜ length (queueOf self .values) < 64 ⌝ }
-        ensures { λ r. ⌜ Pushes v self r ⌝ }
-    {
-        let values = self.values;
-        self.values = values.push_back(v);
-        self.notify()
-    }
-
-    // A slot comes back: to the first sender in line, else to the free room; after the last receiver to nobody. The answer is `what`, with the
-    // token that the call retires.
-    pub(crate) fn release(mut self, what: What, retired: OptToken) -> Turn
-        requires { ⌜ Shaped self ⌝ }
-        requires { ⌜ self .free ≤ 64 ⌝ }
-        ensures { λ r. ⌜ Releases what retired self r ⌝ }
-    {
-        let receivers = self.receivers;
-        let left = receivers.count();
-        if left == 0 {
-            let answer = say(what, Woken::Nobody, retired);
-            return Turn {
-                answer: answer,
-                queue: self,
-            };
-        }
-        let line = self.outs;
-        if line.line_is_empty() {
-            self.free = self.free + 1;
-            let answer = say(what, Woken::Nobody, retired);
-            return Turn {
-                answer: answer,
-                queue: self,
-            };
-        }
-        let outs = self.outs;
-        let called = outs.call_first();
-        let woken = called.woken;
-        let side = called.side;
-        self.outs = side;
-        let answer = say(what, woken, retired);
-        Turn {
-            answer: answer,
-            queue: self,
-        }
-    }
-
     // What a try-send or a try-res of this sender answers: Done, or why not. `cargo` is what goes back where it is not sent.
     fn sendable(self, s: u32, cargo: Cargo) -> What
         requires { ⌜ Shaped self ⌝ }
@@ -236,41 +161,6 @@ impl Queue {
         Turn {
             answer: answer,
             queue: self,
-        }
-    }
-
-    // An outgoing operation that has its slot in hand, and is gone from its side already, ends: a reserve with a permit of its sender, a send with
-    // a push. (A permit's number is always to be had; that arm is never taken.)
-    fn complete(mut self, cargo: Cargo, owner: u8) -> Turn
-        requires { ⌜ Shaped self ⌝ }
-        requires { ⌜ length (queueOf self .values) < 64 ⌝ }
-        ensures { λ r. ⌜ Completes cargo owner self r ⌝ }
-    {
-        match cargo {
-            Cargo::Nothing => {
-                let permits = self.permits;
-                let given = permits.open(owner);
-                let number = given.number;
-                let table = given.permits;
-                match number {
-                    Number::NoRoom => {
-                        let answer = plain(What::NoRoom);
-                        Turn {
-                            answer: answer,
-                            queue: self,
-                        }
-                    }
-                    Number::Given(p) => {
-                        self.permits = table;
-                        let answer = plain(What::Given(p));
-                        Turn {
-                            answer: answer,
-                            queue: self,
-                        }
-                    }
-                }
-            }
-            Cargo::Value(v) => self.push(v),
         }
     }
 
