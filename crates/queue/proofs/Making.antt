@@ -81,6 +81,3 @@ module _ (c : ℕ) (none : Handles) (n : NoHandles none) (a : Answer) (q : Queue
 
       good : (leb 1 c && leb c 64) ≡ true
       good = ap₂ _&&_ (le-leb 1 c (omega arith)) (le-leb c 64 y)
-
-pub none-sound : (h : Handles) → NoHandles h → HandlesSound h
-none-sound h n = n .sound

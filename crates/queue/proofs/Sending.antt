@@ -185,10 +185,6 @@ module _ (q : Queue) (s : Shaped q) where
       unfolding given
       by-number o f = ap (λ (z : Cargo). model.complete (carried z) owner (queueOf q) (queueOf q)) e ∙ ap (λ (z : Option ℕ). model.giveOf z (queueOf q) given) (sym f)
 
-      pub complete-full : (a : Answer) → g .number ≡ NoNumber → Says NoRoom [] [] a → Completes c owner q (record { answer = a; queue = q })
-      complete-full a f u =
-          record { does = record { shaped = s; is = beside NoRoom [] [] a q u ∙ sym (by-number none (sym (ap numbered f) ∙ k .number)) } }
-
       pub complete-given : (p : ℕ) (a : Answer) → g .number ≡ GivenNo p → Says (WGiven p) [] [] a → Completes c owner q (record { answer = a; queue = withPermits (g .permits) q })
       unfolding given
       complete-given p a f u =

@@ -13,11 +13,10 @@ use Rattle.tables.specs.declared.Number.the-variants.{NoRoom as NoNumber, Given
 use Rattle.tables.specs.Meaning.{handlesOf, isLive}
 use Rattle.side.specs.declared.Cargo.{Cargo}
 use Rattle.side.specs.declared.Cargo.the-variants.{Nothing, Value as CValue}
-use Rattle.side.specs.declared.OptToken.{OptToken}
 use Rattle.side.specs.declared.Entry.{Entry}
 use Rattle.side.specs.declared.View.{View}
 use Rattle.side.specs.declared.View.the-variants.{Missing, Found}
-use Rattle.side.specs.Meaning.{carried, stageOf, tokenList}
+use Rattle.side.specs.Meaning.{stageOf}
 use Rattle.model.specs.Table.{blank, lookup, live, if_then_else_}
 use Rattle.model.specs.Side as side
 use Rattle.model.specs.Queue as model

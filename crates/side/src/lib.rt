@@ -45,10 +45,11 @@ pub struct Op {
     mark: Mark,
 }
 
+// Both ends are numbers that calls look at, the line's head and the live word, so that what lies between is copied in one piece.
 pub struct Side {
-    live: Live,
-    ops: [Op; 32],
     waiters: WaitList,
+    ops: [Op; 32],
+    live: Live,
 }
 
 // How far an operation is, as its caller sees it.
