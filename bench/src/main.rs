@@ -12,87 +12,95 @@ use std::time::Instant;
 use calls_of::History;
 use ours::Programs;
 
-/// Best of so many, ours and the crate's in turn; fewer where only the growth is of interest.
-const TURNS: u32 = 15;
-const FEWER_TURNS: u32 = 7;
+/// A machine is quiet for seconds at a time. So every row is measured in each of several passes, some turns at a time,
+/// ours and the crate's in turn, and the best counts.
+const PASSES: u32 = 6;
+const TURNS: u32 = 6;
 /// Rounds of a loop in one timing, as a power of two.
 const POWER: u32 = 15;
 
-struct Row {
-    name: &'static str,
-    /// Calls in one round of the loop.
-    calls: u32,
-    ours: f64,
-    theirs: f64,
+/// One kind of work: how ours does it, by a power of rounds, and how the crate does, by a number of rounds.
+struct Work<'a> {
+    ours: Box<dyn Fn(u32) -> Duration + 'a>,
+    theirs: Box<dyn Fn(u64) + 'a>,
+    /// The least time of ours, of its start alone, and of the crate's.
+    least: [Duration; 3],
 }
 
-/// Nanoseconds a round: ours and the crate's.
-fn compare(turns: u32, ours: impl Fn(u32) -> Duration, theirs: impl Fn(u64)) -> (f64, f64) {
-    let [mut long, mut short, mut crates] = [Duration::MAX; 3];
-    let rounds = 1 << POWER;
-    for _ in 0..turns {
-        long = ours(POWER).min(long);
-        short = ours(0).min(short);
-        let start = Instant::now();
-        theirs(rounds);
-        crates = start.elapsed().min(crates);
+impl<'a> Work<'a> {
+    fn new(ours: impl Fn(u32) -> Duration + 'a, theirs: impl Fn(u64) + 'a) -> Self {
+        Work { ours: Box::new(ours), theirs: Box::new(theirs), least: [Duration::MAX; 3] }
     }
-    let nanos = |time: Duration| time.as_nanos() as f64 / rounds as f64;
-    (nanos(long.saturating_sub(short)), nanos(crates))
+
+    fn measure(&mut self, turns: u32) {
+        for _ in 0..turns {
+            let long = (self.ours)(POWER);
+            let short = (self.ours)(0);
+            let start = Instant::now();
+            (self.theirs)(1 << POWER);
+            let theirs = start.elapsed();
+            for (least, time) in self.least.iter_mut().zip([long, short, theirs]) {
+                *least = time.min(*least);
+            }
+        }
+    }
+
+    /// Nanoseconds a round: ours and the crate's.
+    fn nanos(&self) -> (f64, f64) {
+        let [long, short, theirs] = self.least;
+        let nanos = |time: Duration| time.as_nanos() as f64 / f64::from(1 << POWER);
+        (nanos(long.saturating_sub(short)), nanos(theirs))
+    }
 }
 
-/// Nanoseconds a round of ours alone.
-fn least(ours: impl Fn(u32) -> Duration) -> f64 {
-    compare(FEWER_TURNS, ours, |_| {}).0
-}
-
-fn table(programs: &Programs, history: &History) -> Vec<Row> {
-    let row = |name, calls, (ours, theirs)| Row { name, calls, ours, theirs };
+/// Each kind of work with its name and the calls in one of its rounds.
+fn table<'a>(programs: &'a Programs, history: &'a History) -> Vec<(&'static str, u32, Work<'a>)> {
     let loops = |which, power, size| programs.loops(which, power, size, &history.bytes);
     vec![
-        row("try-send, try-recv", 2, compare(TURNS, |p| loops(b'p', p, 8), |n| theirs::pairs(n, 8))),
-        row(
+        ("try-send, try-recv", 2, Work::new(move |p| loops(b'p', p, 8), |n| theirs::pairs(n, 8))),
+        (
             "reserve, poll-out, permit-send, try-recv",
             4,
-            compare(TURNS, |p| loops(b'r', p, 0), |n| theirs::reserves(n, 0)),
+            Work::new(move |p| loops(b'r', p, 0), |n| theirs::reserves(n, 0)),
         ),
-        row(
+        (
             "full, 8 senders wait: try-recv, poll-out, send, poll-out",
             4,
-            compare(TURNS, |p| loops(b'f', p, 8), |n| theirs::full(n, 8)),
+            Work::new(move |p| loops(b'f', p, 8), |n| theirs::full(n, 8)),
         ),
-        row(
+        (
             "8 receivers wait: try-send, poll-in, recv, poll-in",
             4,
-            compare(TURNS, |p| loops(b'n', p, 8), |n| theirs::notified(n, 8)),
+            Work::new(move |p| loops(b'n', p, 8), |n| theirs::notified(n, 8)),
         ),
-        row("lent: try-send, try-recv", 2, compare(TURNS, |p| programs.lent(b'l', p), |n| theirs::pairs(n, 8))),
-        row("a random history", 1, compare(TURNS, |p| loops(b'h', p, 0), |n| theirs::history(n, &history.calls))),
+        ("lent: try-send, try-recv", 2, Work::new(|p| programs.lent(b'l', p), |n| theirs::pairs(n, 8))),
+        ("lent, refused at once", 2, Work::new(|p| programs.lent(b'x', p), |_| {})),
+        ("a random history", 1, Work::new(move |p| loops(b'h', p, 0), |n| theirs::history(n, &history.calls))),
     ]
 }
 
 fn growth(programs: &Programs) {
     println!("\nhow cost grows, ns a round: ours, the crate");
-    let line = |what: &str, sizes: &[u8], pair: &dyn Fn(u8) -> (f64, f64)| {
-        print!("{what:<44}");
-        for &size in sizes {
-            let (ours, theirs) = pair(size);
+    let loops = |which, power, size| programs.loops(which, power, size, &[]);
+    type Both = fn(u64, u8);
+    let lines: [(&str, u8, Both, [u8; 4]); 4] = [
+        ("capacity (try-send, try-recv)", b'p', theirs::pairs, [1, 8, 32, 64]),
+        ("open operations (reserve cycle)", b'r', theirs::reserves, [0, 8, 16, 31]),
+        ("senders in line (full queue)", b'f', theirs::full, [1, 8, 16, 31]),
+        ("receivers in line", b'n', theirs::notified, [1, 8, 16, 31]),
+    ];
+    for (what, which, crates, sizes) in lines {
+        let mut works = sizes.map(|size| (size, Work::new(move |p| loops(which, p, size), move |n| crates(n, size))));
+        for _ in 0..PASSES {
+            works.iter_mut().for_each(|(_, work)| work.measure(2));
+        }
+        print!("{what:<34}");
+        for (size, work) in &works {
+            let (ours, theirs) = work.nanos();
             print!("  {size:>2}: {ours:>5.0} {theirs:>4.0}");
         }
         println!();
-    };
-    let loops = |which, power, size| programs.loops(which, power, size, &[]);
-    let few = FEWER_TURNS;
-    line("capacity (try-send, try-recv)", &[1, 8, 32, 64], &|s| {
-        compare(few, |p| loops(b'p', p, s), |n| theirs::pairs(n, s))
-    });
-    line("open operations (reserve cycle)", &[0, 8, 16, 31], &|s| {
-        compare(few, |p| loops(b'r', p, s), |n| theirs::reserves(n, s))
-    });
-    line("senders in line (full queue)", &[1, 8, 16, 31], &|s| {
-        compare(few, |p| loops(b'f', p, s), |n| theirs::full(n, s))
-    });
-    line("receivers in line", &[1, 8, 16, 31], &|s| compare(few, |p| loops(b'n', p, s), |n| theirs::notified(n, s)));
+    }
 }
 
 /// What it costs to copy a record of this size in and out, nothing else.
@@ -100,7 +108,7 @@ fn copy_in_and_out(size: usize) -> f64 {
     let (mut here, mut there) = (vec![1u8; size], vec![2u8; size]);
     let rounds = 20_000;
     let mut least = Duration::MAX;
-    for _ in 0..100 {
+    for _ in 0..50 {
         let start = Instant::now();
         for _ in 0..rounds {
             std::hint::black_box(&mut there).copy_from_slice(std::hint::black_box(&here));
@@ -126,26 +134,28 @@ fn main() {
     programs.check_history(&history, POWER);
 
     let size = programs.record_size();
-    let floor = copy_in_and_out(size);
-    println!("a queue's record: {size} bytes; to copy it in and out: {floor:.0} ns\n");
-    println!(
-        "{:<58} {:>7} {:>7} {:>6}  {:>8} {:>6}",
-        "ns a call, best of 15", "ours", "crate", "ratio", "in, out", "ratio"
-    );
-    for row in table(&programs, &history) {
-        let calls = f64::from(row.calls);
-        println!(
-            "{:<58} {:>7.1} {:>7.1} {:>6.1}  {:>8.1} {:>6.2}",
-            row.name,
-            row.ours / calls,
-            row.theirs / calls,
-            row.ours / row.theirs,
-            floor,
-            row.ours / calls / floor
-        );
+    let mut copies = f64::MAX;
+    let mut rows = table(&programs, &history);
+    for _ in 0..PASSES {
+        copies = copies.min(copy_in_and_out(size));
+        rows.iter_mut().for_each(|(_, _, work)| work.measure(TURNS));
     }
-    let refused = least(|power| programs.lent(b'x', power)) / 2.0;
-    println!("{:<58} {refused:>7.1}", "lent, refused at once");
+    println!("a queue's record: {size} bytes; to copy it in and out: {copies:.0} ns\n");
+    println!(
+        "{:<57} {:>6} {:>6} {:>6} {:>22}",
+        "ns a call, the best of 36", "ours", "crate", "ratio", "ratio to in and out"
+    );
+    for (name, calls, work) in &rows {
+        let (ours, theirs) = work.nanos();
+        let calls = f64::from(*calls);
+        print!("{name:<57} {:>6.1}", ours / calls);
+        if theirs < 1.0 {
+            print!(" {:>6} {:>6}", "", "");
+        } else {
+            print!(" {:>6.1} {:>6.1}", theirs / calls, ours / theirs);
+        }
+        println!(" {:>22.2}", ours / calls / copies);
+    }
     growth(&programs);
     programs.instructions(&history);
     programs.lines_a_second(&history);
