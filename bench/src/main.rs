@@ -12,10 +12,11 @@ use std::time::Instant;
 use calls_of::History;
 use ours::Programs;
 
-/// A machine is quiet for seconds at a time. So every row is measured in each of several passes, some turns at a time,
-/// ours and the crate's in turn, and the best counts.
-const PASSES: u32 = 6;
-const TURNS: u32 = 6;
+/// A machine is quiet for seconds at a time. So every kind of work is measured in each of several passes, for a slice of
+/// time each, ours and the crate's in turn, and the best counts.
+const PASSES: u32 = 12;
+const SLICE: Duration = Duration::from_millis(200);
+const SHORT_SLICE: Duration = Duration::from_millis(50);
 /// Rounds of a loop in one timing, as a power of two.
 const POWER: u32 = 15;
 
@@ -32,8 +33,9 @@ impl<'a> Work<'a> {
         Work { ours: Box::new(ours), theirs: Box::new(theirs), least: [Duration::MAX; 3] }
     }
 
-    fn measure(&mut self, turns: u32) {
-        for _ in 0..turns {
+    fn measure(&mut self, slice: Duration) {
+        let begin = Instant::now();
+        while begin.elapsed() < slice {
             let long = (self.ours)(POWER);
             let short = (self.ours)(0);
             let start = Instant::now();
@@ -92,7 +94,7 @@ fn growth(programs: &Programs) {
     for (what, which, crates, sizes) in lines {
         let mut works = sizes.map(|size| (size, Work::new(move |p| loops(which, p, size), move |n| crates(n, size))));
         for _ in 0..PASSES {
-            works.iter_mut().for_each(|(_, work)| work.measure(2));
+            works.iter_mut().for_each(|(_, work)| work.measure(SHORT_SLICE));
         }
         print!("{what:<34}");
         for (size, work) in &works {
@@ -138,12 +140,12 @@ fn main() {
     let mut rows = table(&programs, &history);
     for _ in 0..PASSES {
         copies = copies.min(copy_in_and_out(size));
-        rows.iter_mut().for_each(|(_, _, work)| work.measure(TURNS));
+        rows.iter_mut().for_each(|(_, _, work)| work.measure(SLICE));
     }
     println!("a queue's record: {size} bytes; to copy it in and out: {copies:.0} ns\n");
     println!(
         "{:<57} {:>6} {:>6} {:>6} {:>22}",
-        "ns a call, the best of 36", "ours", "crate", "ratio", "ratio to in and out"
+        "ns a call, the best of 12 passes", "ours", "crate", "ratio", "ratio to in and out"
     );
     for (name, calls, work) in &rows {
         let (ours, theirs) = work.nanos();
