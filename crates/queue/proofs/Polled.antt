@@ -3,21 +3,18 @@
 use Prim.Native.Nat.{ℕ, _+_, _-_, _<_}
 use mathlib.Core.Path.{_≡_, refl, sym, ap, _∙_, subst}
 use mathlib.Core.Bool.{Bool, true, false, not}
-use mathlib.Core.List.{List, [], _∷_, _++_}
+use mathlib.Core.List.{[], _∷_, _++_}
 use mathlib.Core.Logic.{inl, inr, ⊎-elim}
 use mathlib.Core.Option.{some}
 use native.Mathlib.Omega.{arith}
 use lib.ListN.{length}
-use mir.Val.{Fits}
-use mir.Syntax.{w8}
 use Rattle.ring.specs.declared.Ring.{Ring}
 use Rattle.ring.specs.Values as ring
 use Rattle.waitlist.specs.View.{isNil}
 use Rattle.tables.specs.declared.Number.{Number}
 use Rattle.tables.specs.declared.Number.the-variants.{NoRoom as NoNumber, Given as GivenNo}
-use Rattle.tables.specs.declared.Handles.{Handles}
 use Rattle.tables.specs.declared.Given.{Given}
-use Rattle.tables.specs.Meaning.{handlesOf, permitsOf, isLive, numbered, HandlesSound}
+use Rattle.tables.specs.Meaning.{handlesOf, permitsOf, isLive, numbered}
 use Rattle.tables.specs.Calls.{Gives}
 use Rattle.side.specs.declared.Side.{Side}
 use Rattle.side.specs.declared.Cargo.{Cargo}
@@ -36,7 +33,6 @@ use Rattle.side.specs.Meaning.{sideOf, stageOf, tokenList, wokenTokens}
 use Rattle.side.specs.Calls.{Open, Sees, Opens, Ends, Pends, CallsOne}
 use Rattle.model.specs.Table.{lookup, live, size}
 use Rattle.model.specs.Side as side
-use Rattle.model.specs.declared.Call.{Call}
 use Rattle.model.specs.declared.Call.the-variants.{PollOut, CancelOut}
 use Rattle.queue.specs.declared.Queue.{Queue}
 use Rattle.queue.specs.declared.What.{What}
@@ -50,39 +46,22 @@ use Rattle.queue.specs.Promise.{Turned}
 use Rattle.queue.specs.Steps.{Says, opening, ready, withSlot, Slot, Comes, givenBy}
 use Rattle.queue.specs.Steps as steps
 use Rattle.queue.proofs.Moves.{Notifies, Releases, Completes}
-use Rattle.queue.proofs.Settled.{kept, withValues, withFree, withPermits, withOuts, withIns, owner-fits, found-open}
+use Rattle.queue.proofs.Settled.{kept, turned-as, said-as, withValues, withFree, withPermits, withOuts, withIns, found-open}
 use Rattle.queue.proofs.Sending.{out-dead, out-full, out-given, notify-nobody, notify-one, pushed, shaped-pushed, complete-push, complete-given, spare, ready-free}
 use Rattle.queue.proofs.Sending.{poll-dead, sees-found, poll-gone, poll-granted, poll-room, poll-pending, granted, room-granted, room-ready, shaped-ended, shaped-taken}
 use Rattle.queue.proofs.Sending.{release-gone, release-free, release-grant, cancel-dead, cancel-granted, cancel-other}
 
--- ---- along the equations of an arm
-told : (q : Queue) (c : Call) (a : Answer) (q′ q″ : Queue) → q″ ≡ q′ → Turned q c a q′ → Turned q c a q″
-told q c a q′ q″ e t = subst (λ (x : Queue). Turned q c a x) (sym e) t
-
-saying : (what what′ : What) (w t : List ℕ) (a : Answer) → what ≡ what′ → Says what w t a → Says what′ w t a
-saying what what′ w t a e u = subst (λ (x : What). Says x w t a) e u
-
-said-as : (what : What) (woken : Woken) (retired : OptToken) (a : Answer) → Says what (wokenTokens woken) (tokenList retired) a → (what′ : What) (woken′ : Woken) (retired′ : OptToken)
-    → what ≡ what′ → woken ≡ woken′ → retired ≡ retired′ → Says what′ (wokenTokens woken′) (tokenList retired′) a
-said-as what woken retired a u what′ woken′ retired′ x y z =
-    subst (λ (i : What). Says i (wokenTokens woken′) (tokenList retired′) a) x
-    (subst (λ (i : Woken). Says what (wokenTokens i) (tokenList retired′) a) y
-    (subst (λ (i : OptToken). Says what (wokenTokens woken) (tokenList i) a) z u))
-
 -- ---- open_out
-pub owner-small : (h : Handles) (n : ℕ) (b : Bool) → HandlesSound h → b ≡ isLive (lookup (handlesOf h) n) → b ≡ true → Fits w8 n
-owner-small h n b s e d = owner-fits h n b s e (ap not d)
-
 module _ (q : Queue) (snd : Sound q) (s : ℕ) (c : Cargo) (b : Bool) (e : b ≡ isLive (lookup (handlesOf (q .senders)) s)) (what : What) (a : Answer) (u : Says what [] [] a) (q′ : Queue) where
   pub open-dead : b ≡ false → q′ ≡ q → what ≡ NoHandle → Turned q (opening c s) a q′
-  open-dead d x y = told q (opening c s) a q q′ x (out-dead q snd s c b e a (ap not d) (saying what NoHandle [] [] a y u))
+  open-dead d x y = turned-as q (opening c s) a q q′ x (out-dead q snd s c b e a (ap not d) (said-as what NoHandle Nobody Nobody NoToken NoToken a y refl refl u))
 
   module _ (d : b ≡ true) (o : Opened) (k : Opens (q .outs) s c o) where
     pub open-full : o .number ≡ NoNumber → q′ ≡ q → what ≡ NoRoom → Turned q (opening c s) a q′
-    open-full f x y = told q (opening c s) a q q′ x (out-full q snd s c b e (ap not d) o k a f (saying what NoRoom [] [] a y u))
+    open-full f x y = turned-as q (opening c s) a q q′ x (out-full q snd s c b e (ap not d) o k a f (said-as what NoRoom Nobody Nobody NoToken NoToken a y refl refl u))
 
     pub open-given : (n : ℕ) → o .number ≡ GivenNo n → q′ ≡ withOuts (o .side) q → what ≡ WGiven n → Turned q (opening c s) a q′
-    open-given n f x y = told q (opening c s) a (withOuts (o .side) q) q′ x (out-given q snd s c b e (ap not d) o k n a f (saying what (WGiven n) [] [] a y u))
+    open-given n f x y = turned-as q (opening c s) a (withOuts (o .side) q) q′ x (out-given q snd s c b e (ap not d) o k n a f (said-as what (WGiven n) Nobody Nobody NoToken NoToken a y refl refl u))
 
 -- ---- with_slot, outcome_open, outcome_of
 pub slot-reserve : (c : Cargo) (s f : ℕ) → c ≡ Nothing → Permit s f ≡ withSlot c s f
@@ -168,20 +147,20 @@ module _ (q : Queue) (snd : Sound q) (n t : ℕ) (k : ℕ) (g : k ≡ live (hand
 
     module _ (what : What) (woken : Woken) (retired : OptToken) (a : Answer) (u : Says what (wokenTokens woken) (tokenList retired) a) (q′ : Queue) where
       pub polled-dead : plan ≡ NoOperation → q′ ≡ q → what ≡ NoHandle → woken ≡ Nobody → retired ≡ NoToken → Turned q (PollOut n t) a q′
-      polled-dead e i x y z = told q (PollOut n t) a q q′ i (poll-dead q n t view a snd sees (by NoOperation e) (said-as what woken retired a u NoHandle Nobody NoToken x y z))
+      polled-dead e i x y z = turned-as q (PollOut n t) a q q′ i (poll-dead q n t view a snd sees (by NoOperation e) (said-as what NoHandle woken Nobody retired NoToken a x y z u))
 
       pub polled-gone : (c : Cargo) (o : Side) → plan ≡ Gone c → Ends (q .outs) n o → q′ ≡ withOuts o q → what ≡ Disconnected c → woken ≡ Nobody → retired ≡ NoToken → Turned q (PollOut n t) a q′
       polled-gone c o e d i x y z =
           let h = by (Gone c) e in
-          told q (PollOut n t) a (withOuts o q) q′ i
+          turned-as q (PollOut n t) a (withOuts o q) q′ i
           (poll-gone q snd n t (h .0) (at (h .0) (h .1)) k g o a (h .2) d
-          (said-as what woken retired a u (Disconnected (h .0 .cargo)) Nobody NoToken (x ∙ ap Disconnected (sym (h .3))) y z))
+          (said-as what (Disconnected (h .0 .cargo)) woken Nobody retired NoToken a (x ∙ ap Disconnected (sym (h .3))) y z u))
 
       pub polled-pending : (p : Pended) → plan ≡ Stays → Pends (q .outs) n t p → q′ ≡ withOuts (p .side) q → what ≡ Pending → woken ≡ Nobody → retired ≡ p .retired → Turned q (PollOut n t) a q′
       polled-pending p e d i x y z =
           let h = by Stays e in
-          told q (PollOut n t) a (withOuts (p .side) q) q′ i
-          (poll-pending q snd n t (h .0) (at (h .0) (h .1)) k g (h .2) _ refl (h .3) _ refl p a (h .4) d (said-as what woken retired a u Pending Nobody (p .retired) x y z))
+          turned-as q (PollOut n t) a (withOuts (p .side) q) q′ i
+          (poll-pending q snd n t (h .0) (at (h .0) (h .1)) k g (h .2) _ refl (h .3) _ refl p a (h .4) d (said-as what Pending woken Nobody retired (p .retired) a x y z u))
 
       module _ (f : ℕ) (o : Side) (d : Ends (q .outs) n o) where
         pub polled-permit : (s : ℕ) (p : Given) → plan ≡ Permit s f → Gives (q .permits) s p → q′ ≡ withPermits (p .permits) (withFree f (withOuts o q)) → what ≡ givenBy (p .number)
@@ -191,10 +170,10 @@ module _ (q : Queue) (snd : Sound q) (n t : ℕ) (k : ℕ) (g : k ≡ live (hand
             let b = spare (permitsOf (q .permits)) (slot-spare (h .0) (at (h .0) (h .1)) (h .2) f (h .5)) in
             let w = number-given (p .number) (b .0) (l .number ∙ b .1) in
             let l′ : Gives (q .permits) (h .0 .owner) p = subst (λ (j : ℕ). Gives (q .permits) j p) (sym (h .4)) l in
-            told q (PollOut n t) a (withPermits (p .permits) (withFree f (withOuts o q))) q′ i
+            turned-as q (PollOut n t) a (withPermits (p .permits) (withFree f (withOuts o q))) q′ i
             (slot-taken (h .0) (at (h .0) (h .1)) (h .2) f (h .5) o (record { answer = a; queue = withPermits (p .permits) (withFree f (withOuts o q)) }) d
             (complete-given (withFree f (withOuts o q)) (shaped-taken q n o f snd d) (h .0 .cargo) (h .0 .owner) (h .3) p l′ (b .0) a w
-            (said-as what woken retired a u (WGiven (b .0)) Nobody NoToken (x ∙ ap givenBy w) y z)))
+            (said-as what (WGiven (b .0)) woken Nobody retired NoToken a (x ∙ ap givenBy w) y z u)))
 
         module _ (v : ℕ) (e : plan ≡ Push v f) (r : Ring) (l : (ring.Sound r) × (ring.values r ≡ ring.values (q .values) ++ (v ∷ []))) where
           pushing : (x : Turn) → Notifies (withValues r (withFree f (withOuts o q))) x → Turned q (PollOut n t) (x .answer) (x .queue)
@@ -210,27 +189,27 @@ module _ (q : Queue) (snd : Sound q) (n t : ℕ) (k : ℕ) (g : k ≡ live (hand
           module _ (b : Bool) (h : b ≡ isNil (sideOf (q .ins) .line)) where
             pub polled-quiet : b ≡ true → q′ ≡ withValues r (withFree f (withOuts o q)) → what ≡ Done → woken ≡ Nobody → retired ≡ NoToken → Turned q (PollOut n t) a q′
             polled-quiet j i x y z =
-                told q (PollOut n t) a (withValues r (withFree f (withOuts o q))) q′ i
+                turned-as q (PollOut n t) a (withValues r (withFree f (withOuts o q))) q′ i
                 (pushing (record { answer = a; queue = withValues r (withFree f (withOuts o q)) })
-                (notify-nobody (withValues r (withFree f (withOuts o q))) shape a b h j (said-as what woken retired a u Done Nobody NoToken x y z)))
+                (notify-nobody (withValues r (withFree f (withOuts o q))) shape a b h j (said-as what Done woken Nobody retired NoToken a x y z u)))
 
           pub polled-notified : (c : CalledOne) → CallsOne (q .ins) c → q′ ≡ withIns (c .side) (withValues r (withFree f (withOuts o q))) → what ≡ Done → woken ≡ c .woken → retired ≡ NoToken
               → Turned q (PollOut n t) a q′
           polled-notified c j i x y z =
-              told q (PollOut n t) a (withIns (c .side) (withValues r (withFree f (withOuts o q)))) q′ i
+              turned-as q (PollOut n t) a (withIns (c .side) (withValues r (withFree f (withOuts o q)))) q′ i
               (pushing (record { answer = a; queue = withIns (c .side) (withValues r (withFree f (withOuts o q))) })
-              (notify-one (withValues r (withFree f (withOuts o q))) shape c a j (said-as what woken retired a u Done (c .woken) NoToken x y z)))
+              (notify-one (withValues r (withFree f (withOuts o q))) shape c a j (said-as what Done woken (c .woken) retired NoToken a x y z u)))
 
 -- ---- cancel_out
 module _ (q : Queue) (snd : Sound q) (n : ℕ) (view : View) (sees : Sees (q .outs) n view) where
   module _ (what : What) (woken : Woken) (retired : OptToken) (a : Answer) (u : Says what (wokenTokens woken) (tokenList retired) a) (q′ : Queue) where
     pub cancelled-dead : view ≡ Missing → q′ ≡ q → what ≡ NoHandle → woken ≡ Nobody → retired ≡ NoToken → Turned q (CancelOut n) a q′
-    cancelled-dead e i x y z = told q (CancelOut n) a q q′ i (cancel-dead q snd n view sees a e (said-as what woken retired a u NoHandle Nobody NoToken x y z))
+    cancelled-dead e i x y z = turned-as q (CancelOut n) a q q′ i (cancel-dead q snd n view sees a e (said-as what NoHandle woken Nobody retired NoToken a x y z u))
 
     module _ (e : Entry) (f : view ≡ Found e) (o : Side) (d : Ends (q .outs) n o) (b : Bool) (h : b ≡ steps.granted e) where
       pub cancelled-other : (k : OptToken) → b ≡ false → tokenList k ≡ side.kept (stageOf (e .stage)) → q′ ≡ withOuts o q → what ≡ Done → woken ≡ Nobody → retired ≡ k → Turned q (CancelOut n) a q′
       cancelled-other k j l i x y z =
-          told q (CancelOut n) a (withOuts o q) q′ i (cancel-other q snd n view sees e f o d b h k a j l (said-as what woken retired a u Done Nobody k x y z))
+          turned-as q (CancelOut n) a (withOuts o q) q′ i (cancel-other q snd n view sees e f o d b h k a j l (said-as what Done woken Nobody retired k a x y z u))
 
       module _ (y : b ≡ true) (m : ℕ) (g : m ≡ live (handlesOf (q .receivers))) (v : what ≡ Done) (t : retired ≡ NoToken) where
         releases : (r : Turn) → Releases Done NoToken (withOuts o q) r → Turned q (CancelOut n) (r .answer) (r .queue)
@@ -238,19 +217,19 @@ module _ (q : Queue) (snd : Sound q) (n : ℕ) (view : View) (sees : Sees (q .ou
 
         pub cancelled-gone : m ≡ 0 → q′ ≡ withOuts o q → woken ≡ Nobody → Turned q (CancelOut n) a q′
         cancelled-gone z i w =
-            told q (CancelOut n) a (withOuts o q) q′ i
+            turned-as q (CancelOut n) a (withOuts o q) q′ i
             (releases (record { answer = a; queue = withOuts o q })
-            (release-gone (withOuts o q) (shaped-ended q n o snd d) Done NoToken m g a z (said-as what woken retired a u Done Nobody NoToken v w t)))
+            (release-gone (withOuts o q) (shaped-ended q n o snd d) Done NoToken m g a z (said-as what Done woken Nobody retired NoToken a v w t u)))
 
         module _ (z : m ≡ 0 → ⊥) (l : Bool) (j : l ≡ isNil (sideOf o .line)) where
           pub cancelled-freed : l ≡ true → q′ ≡ withFree (q .free + 1) (withOuts o q) → woken ≡ Nobody → Turned q (CancelOut n) a q′
           cancelled-freed k i w =
-              told q (CancelOut n) a (withFree (q .free + 1) (withOuts o q)) q′ i
+              turned-as q (CancelOut n) a (withFree (q .free + 1) (withOuts o q)) q′ i
               (releases (record { answer = a; queue = withFree (q .free + 1) (withOuts o q) })
-              (release-free (withOuts o q) (shaped-ended q n o snd d) Done NoToken m g z l j a k (said-as what woken retired a u Done Nobody NoToken v w t)))
+              (release-free (withOuts o q) (shaped-ended q n o snd d) Done NoToken m g z l j a k (said-as what Done woken Nobody retired NoToken a v w t u)))
 
           pub cancelled-granted : (c : CalledOne) → l ≡ false → CallsOne o c → q′ ≡ withOuts (c .side) q → woken ≡ c .woken → Turned q (CancelOut n) a q′
           cancelled-granted c k r i w =
-              told q (CancelOut n) a (withOuts (c .side) q) q′ i
+              turned-as q (CancelOut n) a (withOuts (c .side) q) q′ i
               (releases (record { answer = a; queue = withOuts (c .side) q })
-              (release-grant (withOuts o q) (shaped-ended q n o snd d) Done NoToken m g z l j c a k r (said-as what woken retired a u Done (c .woken) NoToken v w t)))
+              (release-grant (withOuts o q) (shaped-ended q n o snd d) Done NoToken m g z l j c a k r (said-as what Done woken (c .woken) retired NoToken a v w t u)))

@@ -29,7 +29,6 @@ use Rattle.side.specs.Meaning.{sideOf, carried, wokenTokens}
 use Rattle.side.specs.Calls.{CallsOne}
 use Rattle.model.specs.Table.{lookup, live, size, if_then_else_}
 use Rattle.model.specs.Queue as model
-use Rattle.model.specs.declared.Call.{Call}
 use Rattle.model.specs.declared.Call.the-variants.{TrySend, TryRes, PermitSend, PermitDrop}
 use Rattle.model.specs.Calls.{step, trySend, tryRes}
 use Rattle.queue.specs.declared.Queue.{Queue}
@@ -42,18 +41,11 @@ use Rattle.queue.specs.Answers.{codeOf, fieldOf}
 use Rattle.queue.specs.Promise.{Turned}
 use Rattle.queue.specs.Steps.{Says, isDone, tried, sends, givenBy}
 use Rattle.queue.proofs.Moves.{Pushes}
-use Rattle.queue.proofs.Settled.{kept, stays, does, withValues, withFree, withPermits, withOuts, withIns}
+use Rattle.queue.proofs.Settled.{kept, stays, does, turned-as, said-as, withValues, withFree, withPermits, withOuts, withIns}
 use Rattle.queue.proofs.Settled.{shaped-free, owner-fits, none-left, some-left}
 use Rattle.queue.proofs.Sending.{notify-nobody, notify-one, pushed, shaped-pushed, release-gone, release-free, release-grant, room-free}
 use Rattle.queue.proofs.Sending.{complete-given, spare, complete-either, complete-good}
 use Rattle.queue.proofs.Sending.{permit-dead, permit-gone, permit-sent, room-permit, shaped-closed, drop-dead, drop-done}
-
--- ---- along the equations of an arm
-told : (q : Queue) (c : Call) (a : Answer) (q′ q″ : Queue) → q″ ≡ q′ → Turned q c a q′ → Turned q c a q″
-told q c a q′ q″ e t = subst (λ (x : Queue). Turned q c a x) (sym e) t
-
-spoken : (what what′ : What) (woken woken′ : Woken) (a : Answer) → what ≡ what′ → woken ≡ woken′ → Says what (wokenTokens woken) [] a → Says what′ (wokenTokens woken′) [] a
-spoken what what′ woken woken′ a x y u = subst (λ (z : Woken). Says what′ (wokenTokens z) [] a) y (subst (λ (z : What). Says z (wokenTokens woken) [] a) x u)
 
 -- ---- sendable: by its three tests
 module _ (q : Queue) (shaped : Shaped q) (c : Cargo) (s : ℕ) (b : Bool) (e : b ≡ isLive (lookup (handlesOf (q .senders)) s)) where
@@ -145,7 +137,7 @@ module _ (q : Queue) (snd : Sound q) (c : Cargo) (s : ℕ) (what : What) (e : wh
         room-free q snd (live (handlesOf (q .receivers))) refl (eqb-false (live (handlesOf (q .receivers))) 0 (t .1)) (eqb-false (q .free) 0 (t .2))
 
     pub owner-sent : Fits w8 s
-    owner-sent = owner-fits (q .senders) s (isLive (lookup (handlesOf (q .senders)) s)) (snd .shaped .senders) refl (ap not (tests-passed c s (queueOf q) (is-decided true d) .0))
+    owner-sent = owner-fits (q .senders) s (isLive (lookup (handlesOf (q .senders)) s)) (snd .shaped .senders) refl (tests-passed c s (queueOf q) (is-decided true d) .0)
 
 -- ---- a value was pushed onto q: nobody waits in the line, or its first is called
 module _ (q : Queue) (shaped : Shaped q) (v : ℕ) (x : Ring) (k : (ring.Sound x) × (ring.values x ≡ ring.values (q .values) ++ (v ∷ [])))
@@ -153,20 +145,20 @@ module _ (q : Queue) (shaped : Shaped q) (v : ℕ) (x : Ring) (k : (ring.Sound x
   push-alone : (g : Bool) → g ≡ isNil (sideOf (q .ins) .line) → g ≡ true → woken ≡ Nobody → Pushes v q (record { answer = a; queue = withValues x q })
   push-alone g h t w =
       pushed q shaped v x (record { answer = a; queue = withValues x q }) k
-      (notify-nobody (withValues x q) (shaped-pushed q shaped v x k) a g h t (spoken what Done woken Nobody a y w u))
+      (notify-nobody (withValues x q) (shaped-pushed q shaped v x k) a g h t (said-as what Done woken Nobody NoToken NoToken a y w refl u))
 
   push-called : (o : CalledOne) → CallsOne (q .ins) o → woken ≡ o .woken → Pushes v q (record { answer = a; queue = withIns (o .side) (withValues x q) })
   push-called o h w =
       pushed q shaped v x (record { answer = a; queue = withIns (o .side) (withValues x q) }) k
-      (notify-one (withValues x q) (shaped-pushed q shaped v x k) o a h (spoken what Done woken (o .woken) a y w u))
+      (notify-one (withValues x q) (shaped-pushed q shaped v x k) o a h (said-as what Done woken (o .woken) NoToken NoToken a y w refl u))
 
 -- ---- try_send
 module _ (q : Queue) (snd : Sound q) (s v : ℕ) (what : What) (e : what ≡ sends (CValue v) s (queueOf q)) (b : Bool) (f : b ≡ isDone what)
     (woken : Woken) (a : Answer) (u : Says what (wokenTokens woken) [] a) (q′ : Queue) where
   pub sent-not : b ≡ false → q′ ≡ q → woken ≡ Nobody → Turned q (TrySend s v) a q′
   sent-not d x w =
-      told q (TrySend s v) a q q′ x
-      (stays q (TrySend s v) what a snd (spoken what what woken Nobody a refl w u)
+      turned-as q (TrySend s v) a q q′ x
+      (stays q (TrySend s v) what a snd (said-as what what woken Nobody NoToken NoToken a refl w refl u)
       (ap (λ (z : What). model.reply (codeOf z) (fieldOf z) [] [] (queueOf q)) e
       ∙ send-stopped s (queueOf q) v (is-decided q snd (CValue v) s what e b f false d)))
 
@@ -176,13 +168,13 @@ module _ (q : Queue) (snd : Sound q) (s v : ℕ) (what : What) (e : what ≡ sen
 
     pub sent-alone : (g : Bool) → g ≡ isNil (sideOf (q .ins) .line) → g ≡ true → q′ ≡ withValues x (withFree (q .free - 1) q) → woken ≡ Nobody → Turned q (TrySend s v) a q′
     sent-alone g h t y w =
-        told q (TrySend s v) a (withValues x (withFree (q .free - 1) q)) q′ y
+        turned-as q (TrySend s v) a (withValues x (withFree (q .free - 1) q)) q′ y
         (sent (record { answer = a; queue = withValues x (withFree (q .free - 1) q) })
         (push-alone (withFree (q .free - 1) q) (shaped-free q (snd .shaped) (q .free - 1)) v x k what (is-done q snd (CValue v) s what e b f d) woken a u g h t w))
 
     pub sent-called : (o : CalledOne) → CallsOne (q .ins) o → q′ ≡ withIns (o .side) (withValues x (withFree (q .free - 1) q)) → woken ≡ o .woken → Turned q (TrySend s v) a q′
     sent-called o h y w =
-        told q (TrySend s v) a (withIns (o .side) (withValues x (withFree (q .free - 1) q))) q′ y
+        turned-as q (TrySend s v) a (withIns (o .side) (withValues x (withFree (q .free - 1) q))) q′ y
         (sent (record { answer = a; queue = withIns (o .side) (withValues x (withFree (q .free - 1) q)) })
         (push-called (withFree (q .free - 1) q) (shaped-free q (snd .shaped) (q .free - 1)) v x k what (is-done q snd (CValue v) s what e b f d) woken a u o h w))
 
@@ -198,7 +190,7 @@ module _ (q : Queue) (snd : Sound q) (s : ℕ) (what : What) (e : what ≡ sends
     (what′ : What) (a : Answer) (u : Says what′ [] [] a) (q′ : Queue) where
   pub res-not : b ≡ false → q′ ≡ q → what′ ≡ what → Turned q (TryRes s) a q′
   res-not d x w =
-      told q (TryRes s) a q q′ x
+      turned-as q (TryRes s) a q q′ x
       (stays q (TryRes s) what a snd (subst (λ (z : What). Says z [] [] a) w u)
       (ap (λ (z : What). model.reply (codeOf z) (fieldOf z) [] [] (queueOf q)) e
       ∙ res-stopped s (queueOf q) (is-decided q snd Nothing s what e b f false d)))
@@ -211,7 +203,7 @@ module _ (q : Queue) (snd : Sound q) (s : ℕ) (what : What) (e : what ≡ sends
       let n = spare (permitsOf (q .permits)) h in
       let m : o .number ≡ GivenNo (n .0) = given-number (o .number) (n .0) (k .number ∙ n .1) in
       let said : Says (WGiven (n .0)) [] [] a = subst (λ (z : What). Says z [] [] a) (y ∙ (g ∙ ap givenBy m)) u in
-      told q (TryRes s) a (withPermits (o .permits) (withFree (q .free - 1) q)) q′ x
+      turned-as q (TryRes s) a (withPermits (o .permits) (withFree (q .free - 1) q)) q′ x
       (does q (TryRes s) _ (record { answer = a; queue = withPermits (o .permits) (withFree (q .free - 1) q) }) snd
       (complete-given (withFree (q .free - 1) q) (shaped-free q (snd .shaped) (q .free - 1)) Nothing s refl o k (n .0) a m said .does)
       (complete-good model.bare s (queueOf q) (queueOf (withFree (q .free - 1) q)) refl h)
@@ -225,10 +217,10 @@ module _ (q : Queue) (snd : Sound q) (p : ℕ) (b : Bool) (e : b ≡ isLive (loo
 
   module _ (what : What) (woken : Woken) (a : Answer) (u : Says what (wokenTokens woken) [] a) (q′ : Queue) where
     pub redeemed-not : (v : ℕ) → b ≡ false → q′ ≡ q → what ≡ NoHandle → woken ≡ Nobody → Turned q (PermitSend p v) a q′
-    redeemed-not v d x y w = told q (PermitSend p v) a q q′ x (permit-dead q snd p b e v a (ap not d) (spoken what NoHandle woken Nobody a y w u))
+    redeemed-not v d x y w = turned-as q (PermitSend p v) a q q′ x (permit-dead q snd p b e v a (ap not d) (said-as what NoHandle woken Nobody NoToken NoToken a y w refl u))
 
     pub dropped-not : b ≡ false → q′ ≡ q → what ≡ NoHandle → woken ≡ Nobody → Turned q (PermitDrop p) a q′
-    dropped-not d x y w = told q (PermitDrop p) a q q′ x (drop-dead q snd p b e a (ap not d) (spoken what NoHandle woken Nobody a y w u))
+    dropped-not d x y w = turned-as q (PermitDrop p) a q q′ x (drop-dead q snd p b e a (ap not d) (said-as what NoHandle woken Nobody NoToken NoToken a y w refl u))
 
     module _ (d : b ≡ true) (t : Permits) (k : Drops (q .permits) p t) (n : ℕ) (f : n ≡ live (handlesOf (q .receivers))) where
       rest-shaped : Shaped (withPermits t q)
@@ -236,38 +228,38 @@ module _ (q : Queue) (snd : Sound q) (p : ℕ) (b : Bool) (e : b ≡ isLive (loo
 
       pub redeemed-gone : (v : ℕ) → n ≡ 0 → q′ ≡ withPermits t q → what ≡ Disconnected (CValue v) → woken ≡ Nobody → Turned q (PermitSend p v) a q′
       redeemed-gone v z x y w =
-          told q (PermitSend p v) a (withPermits t q) q′ x
-          (permit-gone q snd p b e (ap not d) t k n f v a z (spoken what (Disconnected (CValue v)) woken Nobody a y w u))
+          turned-as q (PermitSend p v) a (withPermits t q) q′ x
+          (permit-gone q snd p b e (ap not d) t k n f v a z (said-as what (Disconnected (CValue v)) woken Nobody NoToken NoToken a y w refl u))
 
       module _ (v : ℕ) (z : n ≡ 0 → ⊥) (x : Ring) (h : (ring.Sound x) × (ring.values x ≡ ring.values (q .values) ++ (v ∷ []))) (y : what ≡ Done) where
         pub redeemed-alone : (g : Bool) → g ≡ isNil (sideOf (q .ins) .line) → g ≡ true → q′ ≡ withValues x (withPermits t q) → woken ≡ Nobody → Turned q (PermitSend p v) a q′
         redeemed-alone g l m j w =
-            told q (PermitSend p v) a (withValues x (withPermits t q)) q′ j
+            turned-as q (PermitSend p v) a (withValues x (withPermits t q)) q′ j
             (permit-sent q snd p b e (ap not d) t k n f v (record { answer = a; queue = withValues x (withPermits t q) }) z
             (push-alone (withPermits t q) rest-shaped v x h what y woken a u g l m w))
 
         pub redeemed-called : (o : CalledOne) → CallsOne (q .ins) o → q′ ≡ withIns (o .side) (withValues x (withPermits t q)) → woken ≡ o .woken → Turned q (PermitSend p v) a q′
         redeemed-called o l j w =
-            told q (PermitSend p v) a (withIns (o .side) (withValues x (withPermits t q))) q′ j
+            turned-as q (PermitSend p v) a (withIns (o .side) (withValues x (withPermits t q))) q′ j
             (permit-sent q snd p b e (ap not d) t k n f v (record { answer = a; queue = withIns (o .side) (withValues x (withPermits t q)) }) z
             (push-called (withPermits t q) rest-shaped v x h what y woken a u o l w))
 
       module _ (y : what ≡ Done) where
         pub dropped-gone : n ≡ 0 → q′ ≡ withPermits t q → woken ≡ Nobody → Turned q (PermitDrop p) a q′
         dropped-gone z x w =
-            told q (PermitDrop p) a (withPermits t q) q′ x
+            turned-as q (PermitDrop p) a (withPermits t q) q′ x
             (drop-done q snd p b e (ap not d) t k NoToken (record { answer = a; queue = withPermits t q }) refl
-            (release-gone (withPermits t q) rest-shaped Done NoToken n f a z (spoken what Done woken Nobody a y w u)))
+            (release-gone (withPermits t q) rest-shaped Done NoToken n f a z (said-as what Done woken Nobody NoToken NoToken a y w refl u)))
 
         module _ (z : n ≡ 0 → ⊥) (g : Bool) (l : g ≡ isNil (sideOf (q .outs) .line)) where
           pub dropped-free : g ≡ true → q′ ≡ withFree (q .free + 1) (withPermits t q) → woken ≡ Nobody → Turned q (PermitDrop p) a q′
           dropped-free m x w =
-              told q (PermitDrop p) a (withFree (q .free + 1) (withPermits t q)) q′ x
+              turned-as q (PermitDrop p) a (withFree (q .free + 1) (withPermits t q)) q′ x
               (drop-done q snd p b e (ap not d) t k NoToken (record { answer = a; queue = withFree (q .free + 1) (withPermits t q) }) refl
-              (release-free (withPermits t q) rest-shaped Done NoToken n f z g l a m (spoken what Done woken Nobody a y w u)))
+              (release-free (withPermits t q) rest-shaped Done NoToken n f z g l a m (said-as what Done woken Nobody NoToken NoToken a y w refl u)))
 
           pub dropped-called : g ≡ false → (o : CalledOne) → CallsOne (q .outs) o → q′ ≡ withOuts (o .side) (withPermits t q) → woken ≡ o .woken → Turned q (PermitDrop p) a q′
           dropped-called m o h x w =
-              told q (PermitDrop p) a (withOuts (o .side) (withPermits t q)) q′ x
+              turned-as q (PermitDrop p) a (withOuts (o .side) (withPermits t q)) q′ x
               (drop-done q snd p b e (ap not d) t k NoToken (record { answer = a; queue = withOuts (o .side) (withPermits t q) }) refl
-              (release-grant (withPermits t q) rest-shaped Done NoToken n f z g l o a m h (spoken what Done woken (o .woken) a y w u)))
+              (release-grant (withPermits t q) rest-shaped Done NoToken n f z g l o a m h (said-as what Done woken (o .woken) NoToken NoToken a y w refl u)))

@@ -18,7 +18,9 @@ use Rattle.tables.proofs.Laws.{handle-small}
 use Rattle.side.specs.declared.Side.{Side}
 use Rattle.side.specs.declared.Entry.{Entry}
 use Rattle.side.specs.declared.View.the-variants.{Found}
-use Rattle.side.specs.Meaning.{deedOf}
+use Rattle.side.specs.declared.OptToken.{OptToken}
+use Rattle.side.specs.declared.Woken.{Woken}
+use Rattle.side.specs.Meaning.{deedOf, tokenList, wokenTokens}
 use Rattle.side.specs.Sound as side
 use Rattle.side.specs.Calls.{Open, Sees}
 use Rattle.model.specs.Table.{Table, lookup, live}
@@ -82,6 +84,16 @@ does q c want r s u b e =
     settled q c (r .answer) (r .queue) s (u .shaped) (u .is ∙ e)
     (λ h. absurd (omega (arith, h, ap (λ (x : model.Result). x .ans .code) (u .is), ltb-true (want .ans .code) 20 b)))
 
+-- ---- where ways meet: the same said and turned under other names
+pub turned-as : (q : Queue) (c : Call) (a : Answer) (q₁ q₂ : Queue) → q₂ ≡ q₁ → Turned q c a q₁ → Turned q c a q₂
+turned-as q c a q₁ q₂ e t = subst (λ (x : Queue). Turned q c a x) (sym e) t
+
+pub said-as : (what what′ : What) (woken woken′ : Woken) (t t′ : OptToken) (a : Answer) → what ≡ what′ → woken ≡ woken′ → t ≡ t′
+    → Says what (wokenTokens woken) (tokenList t) a → Says what′ (wokenTokens woken′) (tokenList t′) a
+said-as what what′ woken woken′ t t′ a e f g u =
+    subst (λ (x : What). Says x (wokenTokens woken′) (tokenList t′) a) e
+    (subst (λ (x : Woken). Says what (wokenTokens x) (tokenList t′) a) f (subst (λ (x : OptToken). Says what (wokenTokens woken) (tokenList x) a) g u))
+
 -- ---- the queue with one part replaced, and that its parts stay sound
 abbrev pub withValues : Ring → Queue → Queue
 withValues x q = record { capacity = q .capacity; values = x; free = q .free; senders = q .senders; receivers = q .receivers; permits = q .permits; outs = q .outs; ins = q .ins }
@@ -144,8 +156,8 @@ module _ {A : Type 0} (o : Option A) (b : Bool) (e : b ≡ isLive o) where
       by (some a) g = (a, refl)
 
 -- a live handle's number fits the byte in which a record keeps its owner
-pub owner-fits : (h : Handles) (n : ℕ) (b : Bool) → HandlesSound h → b ≡ isLive (lookup (handlesOf h) n) → not b ≡ false → Fits w8 n
-owner-fits h n b s e d = let l = alive (lookup (handlesOf h) n) b e d in record { fits = omega (arith, handle-small h s n (l .0) (l .1)) }
+pub owner-fits : (h : Handles) (n : ℕ) (b : Bool) → HandlesSound h → b ≡ isLive (lookup (handlesOf h) n) → b ≡ true → Fits w8 n
+owner-fits h n b s e d = let l = alive (lookup (handlesOf h) n) b e (ap not d) in record { fits = omega (arith, handle-small h s n (l .0) (l .1)) }
 
 -- what a count and a test tell
 module _ {A : Type 0} (t : Table A) (n : ℕ) (e : n ≡ live t) where

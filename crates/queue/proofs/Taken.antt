@@ -8,7 +8,7 @@ use native.Mathlib.Omega.{arith}
 use lib.ListN.{length}
 use lib.Dec.{T}
 use mir.Val.{Fits, hasKey}
-use mir.Syntax.{w8, w32}
+use mir.Syntax.{w32}
 use types.Run.{OneOf, miss}
 use denote.Enum.Declared.{tagOf}
 use Rattle.ring.specs.declared.Front.the-variants.{Value as FValue, Nothing as FNothing}
@@ -16,9 +16,8 @@ use Rattle.ring.specs.declared.Popped.{Popped}
 use Rattle.ring.specs.declared.Ring.{Ring}
 use Rattle.ring.specs.Values as ring
 use Rattle.waitlist.specs.View.{isNil}
-use Rattle.tables.specs.declared.Handles.{Handles}
 use Rattle.tables.specs.declared.Number.the-variants.{NoRoom as NoNumber, Given as GivenNo}
-use Rattle.tables.specs.Meaning.{handlesOf, isLive, HandlesSound}
+use Rattle.tables.specs.Meaning.{handlesOf, isLive}
 use Rattle.side.specs.declared.Side.{Side}
 use Rattle.side.specs.declared.Cargo.{Cargo}
 use Rattle.side.specs.declared.Cargo.the-variants.{Nothing}
@@ -37,7 +36,6 @@ use Rattle.side.specs.Calls.{Open, Sees, Opens, Ends, Pends, CallsOne}
 use Rattle.model.specs.Table.{lookup, live}
 use Rattle.model.specs.Side as side
 use Rattle.model.specs.Queue as model
-use Rattle.model.specs.declared.Call.{Call}
 use Rattle.model.specs.declared.Call.the-variants.{Recv, TryRecv, PollIn, CancelIn}
 use Rattle.model.specs.Calls.{step, tryRecv}
 use Rattle.model.proofs.Leaves.{tryRecv-dead, tryRecv-value, tryRecv-gone, tryRecv-empty, pollIn-dead, pollIn-value, pollIn-gone, pollIn-pending}
@@ -51,20 +49,10 @@ use Rattle.queue.specs.Answers.{codeOf, fieldOf}
 use Rattle.queue.specs.Promise.{Turned}
 use Rattle.queue.specs.Steps.{Says, takable, takableOf, receivable, receivableOf, pollable, keptOf, passes}
 use Rattle.queue.proofs.Moves.{Notifies, Releases, releasing}
-use Rattle.queue.proofs.Settled.{kept, stays, moves, does, withValues, withFree, withOuts, withIns, shaped-values, shaped-ins, dead, alive, none-left, some-left, owner-fits, free-small, found-open}
+use Rattle.queue.proofs.Settled.{kept, stays, moves, does, turned-as, said-as, withValues, withFree, withOuts, withIns, shaped-values, shaped-ins, dead, alive, none-left, some-left, free-small, found-open}
 use Rattle.queue.proofs.Sending.{notify-nobody, notify-one, release-free, release-grant, sees-found}
 use Rattle.queue.proofs.Receiving.{Pops, first-value, first-nothing, recv-dead, recv-full, recv-given, leave-in-dead, leave-in-passed, leave-in-other}
 use Rattle.queue.proofs.What.{the-type}
-
--- ---- where ways meet: the same said and turned under other names
-pub turned-as : (q : Queue) (c : Call) (a : Answer) (q₁ q₂ : Queue) → q₂ ≡ q₁ → Turned q c a q₁ → Turned q c a q₂
-turned-as q c a q₁ q₂ e t = subst (λ (x : Queue). Turned q c a x) (sym e) t
-
-pub said-as : (what what′ : What) (woken woken′ : Woken) (t t′ : OptToken) (a : Answer) → what ≡ what′ → woken ≡ woken′ → t ≡ t′
-    → Says what (wokenTokens woken) (tokenList t) a → Says what′ (wokenTokens woken′) (tokenList t′) a
-said-as what what′ woken woken′ t t′ a e f g u =
-    subst (λ (x : What). Says x (wokenTokens woken′) (tokenList t′) a) e
-    (subst (λ (x : Woken). Says what (wokenTokens x) (tokenList t′) a) f (subst (λ (x : OptToken). Says what (wokenTokens woken) (tokenList x) a) g u))
 
 -- ---- no arm of a match had this answer
 none-of : (ks : List ℕ) (what x : What) → OneOf ks (tagOf the-type what) → what ≡ x → T (not (hasKey ks (tagOf the-type x))) → ⊥
@@ -357,9 +345,6 @@ module _ (q : Queue) (snd : Sound q) (n : ℕ) (view : View) (sees : Sees (q .in
         (leave-in-other q snd n op (sees-found (q .ins) n view op sees f) left queued g h o x b y t a d p (said-as what Done woken NoOne retired t a e w m u))
 
 -- ---- recv
-pub receiver-fits : (h : Handles) (n : ℕ) (b : Bool) → HandlesSound h → b ≡ isLive (lookup (handlesOf h) n) → b ≡ true → Fits w8 n
-receiver-fits h n b s e d = owner-fits h n b s e (ap not d)
-
 module _ (q : Queue) (snd : Sound q) (s : ℕ) (b : Bool) (e : b ≡ isLive (lookup (handlesOf (q .receivers)) s)) (what : What) (a : Answer) (u : Says what [] [] a) (q′ : Queue) where
   says-so : (x : What) → what ≡ x → Says x [] [] a
   says-so x f = subst (λ (y : What). Says y [] [] a) f u

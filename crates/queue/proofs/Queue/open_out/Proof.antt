@@ -1,7 +1,8 @@
 -- `queue::Queue::open_out` meets its contract. Its arms meet before the one exit: no number is free, a number was given, no such sender.
 -- Assumes nothing.
 use mathlib.Core.Logic.{⊎-elim}
-use Rattle.queue.proofs.Polled.{owner-small, open-dead, open-full, open-given}
+use Rattle.queue.proofs.Settled.{owner-fits}
+use Rattle.queue.proofs.Polled.{open-dead, open-full, open-given}
 use borrow.Author.Needs.{needs}
 use Rattle.queue.proofs.Queue.open_out.Statement.{statement}
 use Rattle.queue.proofs.Queue.open_out.Tie as tie
@@ -10,7 +11,7 @@ has-requires : tie.Need-has-requires
 has-requires c κs = search needs
 
 cast-owner : tie.Need-cast-owner
-cast-owner c = search owner-small
+cast-owner c = search owner-fits
 
 open-requires : tie.Need-open-requires
 open-requires c κs = search needs
