@@ -1,7 +1,11 @@
--- The crate's types, as `Thin.antt` and `Lent.antt` take them: the record, the call, the answer, and the turn that holds an answer and a record.
+-- The crate's types, as `Thin.antt`, `Arms.antt` and `Lent.antt` take them: the record, the call, the answer, and the turn that holds an answer and a record.
 -- `LL` is for a struct and `EL` for an enum. An enum's `lawful` has one argument more, `tt`.
 -- Assumes nothing.
+use mathlib.Core.Path.{refl}
+use mir.Syntax.{w32, tyInt, tcons, tnil}
 use denote.Struct.Laws as LL
+use denote.Enum.Declared.{variants}
+use denote.Enum.Enum.{layouts}
 use denote.Enum.Laws as EL
 use Rattle.queue.specs.declared.Queue.{Queue}
 use Rattle.model.specs.declared.Call.{Call}
@@ -9,6 +13,7 @@ use Rattle.queue.specs.declared.Answer.{Answer}
 use Rattle.queue.specs.declared.Turn.{Turn}
 use Rattle.station.proofs.Thin as Thin
 use Rattle.station.proofs.Thin.{Data, Laws, Turns, Splits}
+use Rattle.station.proofs.Arms.{Choices, choice}
 use Rattle.station.proofs.Lent.{Joins}
 use Rattle.queue.proofs.Queue as TQ
 use Rattle.queue.proofs.Queue.Laws as TQ′
@@ -22,8 +27,11 @@ use Rattle.queue.proofs.Turn.Laws as TT′
 abbrev pub Qd : Data
 Qd = record { D = Queue; τ = TQ′.mir; written = TQ.the-row .written; reaches = TQ.the-row .reaches; own = TQ.the-row .own; coded = TQ.the-row .coded; val = LL.val TQ.the-type TQ′.the-laws }
 
+abbrev pub Cc : Choices
+Cc = record { D = Call; name = TC.enum .name; variants = layouts (variants TC.the-type); first = tcons (tyInt w32) tnil; first-is = refl; written = TC.the-row .written; reaches = TC.the-row .reaches; own = TC.the-row .own; coded = TC.the-row .coded; val = EL.val TC.the-type TC′.the-laws }
+
 abbrev pub Cd : Data
-Cd = record { D = Call; τ = TC′.mir; written = TC.the-row .written; reaches = TC.the-row .reaches; own = TC.the-row .own; coded = TC.the-row .coded; val = EL.val TC.the-type TC′.the-laws }
+Cd = choice Cc
 
 abbrev pub Ad : Data
 Ad = record { D = Answer; τ = TA′.mir; written = TA.the-row .written; reaches = TA.the-row .reaches; own = TA.the-row .own; coded = TA.the-row .coded; val = LL.val TA.the-type TA′.the-laws }
