@@ -58,7 +58,9 @@ impl Programs {
         for &call in history.calls.iter().cycle().take(1 << power) {
             machine.answer(call);
         }
-        let Field::Counts([queued, free, _, _, lined, waiting]) = machine.answer(Call::Status).field else {
+        let Field::Counts([Some(queued), Some(free), _, _, Some(lined), Some(waiting)]) =
+            machine.answer(Call::Status).field
+        else {
             panic!("no counts")
         };
         let (_, out) = self.timed("loops", &input(b'h', power, 0, &history.bytes));

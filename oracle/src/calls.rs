@@ -6,6 +6,7 @@ use std::fmt;
 #[derive(Clone, Copy, Debug, Eq, PartialEq)]
 pub enum Call {
     Make(u32),
+    MakeU,
     CloneS(u32),
     CloneR(u32),
     TrySend(u32, u32),
@@ -46,6 +47,7 @@ pub fn read(line: &[u8]) -> Option<Call> {
     Some(match (name, &numbers[..count]) {
         (b"make", []) => Call::Make(CAPACITY_OF_BARE_MAKE),
         (b"make", &[capacity]) => Call::Make(capacity),
+        (b"make-u", []) => Call::MakeU,
         (b"clone-s", &[n]) => Call::CloneS(n),
         (b"clone-r", &[n]) => Call::CloneR(n),
         (b"try-send", &[n, value]) => Call::TrySend(n, value),
@@ -88,6 +90,7 @@ impl Call {
     fn parts(self) -> (&'static str, [Option<u32>; 2]) {
         match self {
             Call::Make(capacity) => ("make", [Some(capacity), None]),
+            Call::MakeU => ("make-u", [None, None]),
             Call::CloneS(n) => ("clone-s", [Some(n), None]),
             Call::CloneR(n) => ("clone-r", [Some(n), None]),
             Call::TrySend(n, value) => ("try-send", [Some(n), Some(value)]),

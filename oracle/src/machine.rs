@@ -1,5 +1,5 @@
-//! One call at a time on the real queue. Record numbers, limits and refusals (20 to 23) are this file's, written from
-//! the specification; every other answer is what the crate's own handles, permits and futures did.
+//! One call at a time on the real queue, bounded or unbounded. Record numbers, limits and refusals (20 to 28) are this
+//! file's, written from the specification; every other answer is what the crate's own handles, permits and futures did.
 
 use std::future::Future;
 use std::pin::Pin;
@@ -15,11 +15,13 @@ use crate::mpmc::RecvError;
 use crate::mpmc::SendError;
 use crate::mpmc::TryRecvError;
 use crate::mpmc::TrySendError;
-use crate::mpmc::bounded::bounded;
-use crate::mpmc::bounded::read_shared;
+use crate::mpmc::UnboundedReceiver;
+use crate::mpmc::UnboundedSender;
+use crate::mpmc::bounded;
 use crate::mpmc::queue::Shared;
 use crate::mpmc::queue::read_contents;
 use crate::mpmc::queue::read_counts;
+use crate::mpmc::unbounded;
 use crate::wakers;
 use crate::wakers::Value;
 
@@ -38,6 +40,8 @@ pub enum Code {
     InUse = 22,
     NoRoom = 23,
     BadLine = 24,
+    RingFull = 25,
+    WrongKind = 28,
 }
 
 impl Code {
@@ -50,7 +54,8 @@ impl Code {
 pub enum Field {
     None,
     Number(u32),
-    Counts([u32; 6]),
+    /// The second is nothing on an unbounded queue, which has no free room to count.
+    Counts([Option<u32>; 6]),
 }
 
 /// Code and field of an answer. Its wakes and its retired token stand in the log of `wakers` until the next call.
@@ -131,6 +136,69 @@ impl<H> Handle<H> {
     }
 }
 
+/// Which queue a make begins.
+#[derive(Clone, Copy)]
+enum Kind {
+    Bounded(usize),
+    Unbounded,
+}
+
+#[derive(Clone)]
+enum Sender {
+    Bounded(BoundedSender<Value>),
+    Unbounded(UnboundedSender<Value>),
+}
+
+impl Sender {
+    /// What only a bounded queue's sender can do is refused to the other kind's, before 23 and 12 are looked for. That it
+    /// goes before 23 no history can show, since the other kind never has an outgoing operation.
+    fn bounded(&self) -> Result<&BoundedSender<Value>, Code> {
+        match self {
+            Sender::Bounded(sender) => Ok(sender),
+            Sender::Unbounded(_) => Err(Code::WrongKind),
+        }
+    }
+}
+
+#[derive(Clone)]
+enum Receiver {
+    Bounded(BoundedReceiver<Value>),
+    Unbounded(UnboundedReceiver<Value>),
+}
+
+impl Receiver {
+    fn try_recv(&self) -> Result<Value, TryRecvError> {
+        match self {
+            Receiver::Bounded(receiver) => receiver.try_recv(),
+            Receiver::Unbounded(receiver) => receiver.try_recv(),
+        }
+    }
+
+    fn recv(&'static self) -> Future1<Result<Value, RecvError>> {
+        match self {
+            Receiver::Bounded(receiver) => Box::pin(receiver.recv()),
+            Receiver::Unbounded(receiver) => Box::pin(receiver.recv()),
+        }
+    }
+}
+
+/// A new queue of the crate: its state, its first sender and its first receiver.
+fn new_queue(kind: Kind) -> (Arc<Shared<Value>>, Sender, Receiver) {
+    match kind {
+        Kind::Bounded(capacity) => {
+            let (sender, receiver) = bounded::bounded(capacity);
+            (bounded::read_shared(&sender), Sender::Bounded(sender), Receiver::Bounded(receiver))
+        }
+        Kind::Unbounded => {
+            let (sender, receiver) = unbounded::unbounded();
+            (unbounded::read_shared(&sender), Sender::Unbounded(sender), Receiver::Unbounded(receiver))
+        }
+    }
+}
+
+/// Values that an unbounded queue may hold, where the crate's grows.
+const MOST_VALUES: usize = 64;
+
 type Future1<T> = Pin<Box<dyn Future<Output = T>>>;
 
 enum OutgoingFuture {
@@ -162,18 +230,18 @@ struct PermitRecord {
 struct Queue {
     /// For reading only. It stands for no handle and outlives them all, since status answers after the last.
     shared: Arc<Shared<Value>>,
-    senders: Table<Handle<BoundedSender<Value>>, 16>,
-    receivers: Table<Handle<BoundedReceiver<Value>>, 16>,
+    senders: Table<Handle<Sender>, 16>,
+    receivers: Table<Handle<Receiver>, 16>,
     outgoing: Table<Outgoing, 32>,
     incoming: Table<Incoming, 32>,
     permits: Table<PermitRecord, 64>,
 }
 
 impl Queue {
-    fn new(capacity: usize) -> Self {
-        let (sender, receiver) = bounded(capacity);
+    fn new(kind: Kind) -> Self {
+        let (shared, sender, receiver) = new_queue(kind);
         let mut queue = Queue {
-            shared: read_shared(&sender),
+            shared,
             senders: Table::new(),
             receivers: Table::new(),
             outgoing: Table::new(),
@@ -184,17 +252,17 @@ impl Queue {
         queue
     }
 
-    fn open_first(&mut self, sender: BoundedSender<Value>, receiver: BoundedReceiver<Value>) {
+    fn open_first(&mut self, sender: Sender, receiver: Receiver) {
         // The tables are empty, so both get number 0.
         let _ = self.senders.open(Handle::new(sender));
         let _ = self.receivers.open(Handle::new(receiver));
     }
 
     /// A new queue in the place of this one, whose tables are used again.
-    fn renew(&mut self, capacity: usize) {
+    fn renew(&mut self, kind: Kind) {
         self.close_all();
-        let (sender, receiver) = bounded(capacity);
-        self.shared = read_shared(&sender);
+        let (shared, sender, receiver) = new_queue(kind);
+        self.shared = shared;
         self.open_first(sender, receiver);
     }
 
@@ -209,7 +277,7 @@ impl Queue {
 
     fn call(&mut self, call: Call) -> Result<Answer, Code> {
         match call {
-            Call::Make(_) => Err(Code::BadCapacity),
+            Call::Make(_) | Call::MakeU => Err(Code::BadCapacity),
             Call::CloneS(n) => {
                 let sender = self.senders.get(n)?.borrow();
                 self.senders.room()?;
@@ -220,28 +288,24 @@ impl Queue {
                 self.receivers.room()?;
                 self.receivers.open(Handle::new(receiver.clone()))
             }
-            Call::TrySend(n, value) => Ok(match self.senders.get(n)?.borrow().try_send(Value::new(value)) {
-                Ok(()) => answer(Code::Done, Field::None),
-                Err(TrySendError::Full(value)) => answer(Code::Full, Field::Number(value.take())),
-                Err(TrySendError::Disconnected(value)) => answer(Code::Disconnected, Field::Number(value.take())),
-            }),
-            Call::TryRes(n) => match self.senders.get(n)?.borrow().try_reserve() {
+            Call::TrySend(n, value) => self.try_send(n, value),
+            Call::TryRes(n) => match self.senders.get(n)?.borrow().bounded()?.try_reserve() {
                 Ok(permit) => self.permits.open(PermitRecord { owner: n, permit }),
                 Err(TrySendError::Full(())) => Ok(answer(Code::Full, Field::None)),
                 Err(TrySendError::Disconnected(())) => Ok(answer(Code::Disconnected, Field::None)),
             },
             Call::Reserve(n) => {
-                let future = OutgoingFuture::Reserve(Box::pin(self.senders.get(n)?.borrow().reserve()));
+                let future = OutgoingFuture::Reserve(Box::pin(self.senders.get(n)?.borrow().bounded()?.reserve()));
                 self.outgoing.open(Outgoing { owner: n, value: None, pending: None, future })
             }
             Call::Send(n, value) => {
-                let sender = self.senders.get(n)?.borrow();
+                let sender = self.senders.get(n)?.borrow().bounded()?;
                 self.outgoing.room()?;
                 let future = OutgoingFuture::Send(Box::pin(sender.send(Value::new(value))));
                 self.outgoing.open(Outgoing { owner: n, value: Some(value), pending: None, future })
             }
             Call::Recv(n) => {
-                let future = Box::pin(self.receivers.get(n)?.borrow().recv());
+                let future = self.receivers.get(n)?.borrow().recv();
                 self.incoming.open(Incoming { owner: n, pending: None, future })
             }
             Call::PollOut(n, token) => self.poll_out(n, token),
@@ -291,6 +355,25 @@ impl Queue {
         }
     }
 
+    fn try_send(&mut self, n: u32, value: u32) -> Result<Answer, Code> {
+        let sent = match self.senders.get(n)?.borrow() {
+            Sender::Bounded(sender) => sender.try_send(Value::new(value)),
+            Sender::Unbounded(sender) => {
+                // Code 12 goes before 25, and does so here: without a receiver the queue holds nothing. For the same reason
+                // no history can show which of them is looked for first.
+                if read_counts(&self.shared).queued >= MOST_VALUES {
+                    return Err(Code::RingFull);
+                }
+                sender.send(Value::new(value)).map_err(|error| TrySendError::Disconnected(error.into_inner()))
+            }
+        };
+        Ok(match sent {
+            Ok(()) => answer(Code::Done, Field::None),
+            Err(TrySendError::Full(value)) => answer(Code::Full, Field::Number(value.take())),
+            Err(TrySendError::Disconnected(value)) => answer(Code::Disconnected, Field::Number(value.take())),
+        })
+    }
+
     fn poll_out(&mut self, n: u32, token: u32) -> Result<Answer, Code> {
         let waker = wakers::waker(token);
         let mut context = Context::from_waker(&waker);
@@ -333,17 +416,18 @@ impl Queue {
     }
 
     /// Counts 1, 2, 4 and 5 are read in the crate's state; live permits and operations found Pending are counted here.
-    fn status(&self) -> [u32; 6] {
+    fn status(&self) -> [Option<u32>; 6] {
         let counts = read_counts(&self.shared);
         let pending = self.incoming.each().filter(|(_, operation)| operation.pending.is_some()).count();
-        [
-            counts.queued as u32,
-            counts.free_room as u32,
-            self.permits.live.count_ones(),
-            counts.granted as u32,
-            counts.senders_in_line as u32,
-            pending as u32,
-        ]
+        let places = [
+            Some(counts.queued),
+            counts.free_room,
+            Some(self.permits.live.count_ones() as usize),
+            Some(counts.granted),
+            Some(counts.senders_in_line),
+            Some(pending),
+        ];
+        places.map(|count| count.map(|count| count as u32))
     }
 }
 
@@ -378,6 +462,7 @@ impl Machine {
         wakers::clear_log();
         let given = match (call, &mut self.queue) {
             (Call::Make(capacity), _) => self.make(capacity),
+            (Call::MakeU, _) => self.begin(Kind::Unbounded),
             (_, None) => Err(Code::NoHandle),
             (_, Some(queue)) => queue.call(call),
         };
@@ -394,9 +479,13 @@ impl Machine {
         if !(1..=64).contains(&capacity) {
             return Err(Code::BadCapacity);
         }
+        self.begin(Kind::Bounded(capacity as usize))
+    }
+
+    fn begin(&mut self, kind: Kind) -> Result<Answer, Code> {
         match &mut self.queue {
-            Some(queue) => queue.renew(capacity as usize),
-            None => self.queue = Some(Box::new(Queue::new(capacity as usize))),
+            Some(queue) => queue.renew(kind),
+            None => self.queue = Some(Box::new(Queue::new(kind))),
         }
         // What the end of the older queue woke and destroyed belongs to no answer.
         wakers::clear_log();
@@ -420,7 +509,8 @@ impl Machine {
         const END: u32 = u32::MAX;
         out.clear();
         let Some(queue) = &self.queue else { return };
-        out.extend(queue.status());
+        // No free room is written as a number that none can be, which tells the kinds apart.
+        out.extend(queue.status().map(|count| count.unwrap_or(END)));
         let mut lines = [vec![], vec![]];
         let [senders, receivers] = &mut lines;
         let token = |waker: Option<&_>| waker.map_or(END, wakers::token);

@@ -19,7 +19,8 @@ pub mod queue {
     /// What the crate's own state shows between two calls.
     pub struct Counts {
         pub queued: usize,
-        pub free_room: usize,
+        /// Nothing on an unbounded queue.
+        pub free_room: Option<usize>,
         pub granted: usize,
         pub senders_in_line: usize,
     }
@@ -29,7 +30,7 @@ pub mod queue {
         let is_granted = |waiter: &&SendWaiter| matches!(waiter, SendWaiter::Granted);
         Counts {
             queued: state.values.len(),
-            free_room: state.available.unwrap_or(0),
+            free_room: state.available,
             granted: state.send_waiters.read_nodes().filter(is_granted).count(),
             senders_in_line: state.send_waiters.read_line().count(),
         }
@@ -55,9 +56,13 @@ pub mod queue {
     }
 }
 
-#[allow(dead_code)]
 pub mod unbounded {
     include!("../asyncband/src/mpmc/unbounded.rs");
+
+    /// As of the bounded queue.
+    pub fn read_shared<T>(sender: &UnboundedSender<T>) -> Arc<Shared<T>> {
+        sender.shared.clone()
+    }
 }
 
 pub use bounded::BoundedReceiver;
@@ -68,3 +73,6 @@ pub use error::SendError;
 pub use error::TryRecvError;
 pub use error::TrySendError;
 pub use queue::Permit;
+pub use unbounded::UnboundedReceiver;
+pub use unbounded::UnboundedSender;
+pub use unbounded::unbounded;

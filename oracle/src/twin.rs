@@ -89,7 +89,7 @@ pub fn write_answer(out: &mut Vec<u8>, answer: Answer) {
     match answer.field {
         Field::None => write_list(out, &[]),
         Field::Number(number) => write_list(out, &[number]),
-        Field::Counts(counts) => write_list(out, &counts),
+        Field::Counts(counts) => write_counts(out, counts),
     }
     wakers::with_log(|log| {
         write_list(out, &log.woken);
@@ -108,5 +108,16 @@ fn write_list(out: &mut Vec<u8>, numbers: &[u32]) {
             out.push(b',');
         }
         write_number(out, u64::from(number));
+    }
+}
+
+/// Counts keep their places: one that the queue does not have is a `-`.
+fn write_counts(out: &mut Vec<u8>, counts: [Option<u32>; 6]) {
+    for (place, count) in counts.into_iter().enumerate() {
+        out.push(if place > 0 { b',' } else { b' ' });
+        match count {
+            Some(count) => write_number(out, u64::from(count)),
+            None => out.push(b'-'),
+        }
     }
 }

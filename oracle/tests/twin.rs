@@ -44,11 +44,43 @@ fn no_input_gives_no_output() {
 fn a_line_is_read_only_in_its_one_form() {
     assert_eq!(calls::read(b"make"), Some(Call::Make(8)));
     assert_eq!(calls::read(b"poll-out 31 4294967295"), Some(Call::PollOut(31, u32::MAX)));
+    assert_eq!(calls::read(b"make-u"), Some(Call::MakeU));
+    assert_eq!(Call::MakeU.to_string(), "make-u");
     for bad in
         ["make ", "make  1", "make 01", "make +1", "make 4294967296", "make 1\r", "status 0", "send 0", "push 0 1", ""]
     {
         assert_eq!(calls::read(bad.as_bytes()), None, "{bad:?}");
     }
+    for bad in ["make-u ", "make-u 1", "make-u 0", " make-u", "Make-u", "make-U", "make-", "make-uu", "makeu", "make u"]
+    {
+        assert_eq!(calls::read(bad.as_bytes()), None, "{bad:?}");
+    }
+}
+
+/// Codes and fields of the last lines of a list.
+fn last(list: &str, count: usize) -> Vec<String> {
+    let output = answers(&[list.as_bytes()]);
+    let lines: Vec<&str> = output.lines().collect();
+    let answer = |line: &&str| line.split(' ').skip(1).take(2).collect::<Vec<_>>().join(" ");
+    lines[lines.len() - count..].iter().map(answer).collect()
+}
+
+#[test]
+fn an_unbounded_queue_refuses_reservations() {
+    assert_eq!(last("make-u\ntry-res 0\nreserve 0\nsend 0 7", 3), ["28 -"; 3]);
+    assert_eq!(last("make-u\ndrop-r 0\ntry-res 0\nreserve 0\nsend 0 7", 3), ["28 -"; 3]);
+    assert_eq!(last("make-u\ntry-res 1\nreserve 1\nsend 1 7", 3), ["21 -"; 3]);
+    assert_eq!(last("make-u\npoll-out 0 1\ncancel-out 0\npermit-send 0 7\npermit-drop 0", 4), ["21 -"; 4]);
+    assert_eq!(last("make-u\nreserve 0\nstatus\nmake 2\nstatus", 3), ["4 0,-,0,0,0,0", "0 -", "4 0,2,0,0,0,0"]);
+}
+
+#[test]
+fn an_unbounded_queue_holds_64_values() {
+    let full = format!("make-u\n{}", "try-send 0 7\n".repeat(64));
+    assert_eq!(last(&full, 1), ["0 -"]);
+    assert_eq!(last(&format!("{full}try-send 0 8\nstatus"), 2), ["25 -", "4 64,-,0,0,0,0"]);
+    assert_eq!(last(&format!("{full}try-recv 0\ntry-send 0 8\ntry-send 0 9"), 3), ["1 7", "0 -", "25 -"]);
+    assert_eq!(last(&format!("{full}try-send 1 8\ndrop-r 0\ntry-send 0 9"), 3), ["21 -", "0 64", "12 9"]);
 }
 
 #[test]

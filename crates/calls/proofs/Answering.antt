@@ -1,17 +1,23 @@
 -- The parts of the queue's answer, and what a line does, as the code has them. Assumes nothing.
 use Prim.Native.Nat.{ℕ, _<_, min}
-use mathlib.Core.Path.{_≡_, sym, _∙_}
-use mathlib.Core.List.{List}
+use mathlib.Core.Path.{_≡_, sym, ap, _∙_}
+use mathlib.Core.List.{List, [], _∷_, _++_}
 use native.Mathlib.Omega.{arith}
 use native.Mathlib.Decide.{decLt}
 use lib.ListN.{length, take}
 use lib.Seq.{take-all}
 use Rattle.queue.specs.declared.What.{What}
+use Rattle.queue.specs.declared.What.the-variants.{Status}
+use Rattle.queue.specs.declared.Counts.{Counts}
+use Rattle.queue.specs.declared.Room.{Room}
+use Rattle.queue.specs.declared.Room.the-variants.{Unbounded, Slots}
 use Rattle.side.specs.declared.Cargo.{Cargo}
 use Rattle.side.specs.declared.OptToken.{OptToken}
 use Rattle.side.specs.Meaning.{carried, tokenList}
 use Rattle.model.specs.Queue as model
 use Rattle.queue.specs.declared.Answer as queue
+use Rattle.model.specs.Calls.{shown}
+use Rattle.queue.specs.Meaning.{roomOf}
 use Rattle.queue.specs.Answers.{codeOf, fieldOf, ansOf}
 use Rattle.lines.specs.declared.show.Answer as lines
 use Rattle.lines.specs.Shown.{told, Counted}
@@ -28,6 +34,19 @@ says-cargo e s = rw e s
 
 pub lets-go : {t u : OptToken} {g : Gone} → t ≡ u → LetGo g (tokenList u) → LetGo g (tokenList t)
 lets-go e s = rw e s
+
+-- ---- status's counts, by the kind of the queue
+counted-as : (c : Counts) (r : Room) → c .free ≡ r
+    → fieldOf (Status c) ≡ c .queued ∷ (shown (roomOf r) ++ (c .permits ∷ c .granted ∷ c .lined ∷ c .waiting ∷ []))
+counted-as c r e = ap (λ (x : Room). c .queued ∷ (shown (roomOf x) ++ (c .permits ∷ c .granted ∷ c .lined ∷ c .waiting ∷ []))) e
+
+pub says-slots : (c : Counts) (n : ℕ) → c .free ≡ Slots n
+    → Says (record { all = c .queued ∷ n ∷ c .permits ∷ c .granted ∷ c .lined ∷ c .waiting ∷ []; n = 6 }) (fieldOf (Status c))
+says-slots c n e = record { few = omega arith; are = sym (counted-as c (Slots n) e) }
+
+pub says-unbounded : (c : Counts) → c .free ≡ Unbounded
+    → Says (record { all = c .queued ∷ c .permits ∷ c .granted ∷ c .lined ∷ c .waiting ∷ 0 ∷ []; n = 5 }) (fieldOf (Status c))
+says-unbounded c e = record { few = omega arith; are = sym (counted-as c Unbounded e) }
 
 -- ---- the whole answer
 -- an array of 32 has no more than 32 to take

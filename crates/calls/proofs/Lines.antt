@@ -11,7 +11,7 @@ use Rattle.queue.specs.declared.Turn.{Turn}
 use Rattle.queue.specs.declared.Queue.{Queue}
 use Rattle.queue.specs.Answers.{codeOf, ansOf}
 use Rattle.queue.specs.Promise.{Made, Turned}
-use Rattle.model.specs.Calls.{make}
+use Rattle.model.specs.Calls.{make, makeU, byMake, byMakeU}
 use Rattle.lines.specs.declared.Line.{Line}
 use Rattle.lines.specs.declared.Line.the-variants as Line
 use Rattle.lines.specs.declared.show.Answer.{Answer}
@@ -29,10 +29,10 @@ pub bad-line : {k : Current} {a : Answer} → Kept k → (told a ≡ bare BAD-LI
 bad-line kept s = record { kept = kept; next = refl; reply = s .0; counted = s .1 }
 
 -- make
-made-code : {n : ℕ} {a : queue.Answer} {q : Queue} {code : ℕ} → Made n a q → code ≡ codeOf (a .what) → make n .ans .code ≡ code
+made-code : {n : ℕ} {a : queue.Answer} {q : Queue} {code : ℕ} → Made (byMake n) a q → code ≡ codeOf (a .what) → make n .ans .code ≡ code
 made-code made e = ap (λ (x : model.Ans). x .code) (sym (made .answer)) ∙ sym e
 
-pub good-make : {k : Current} {n : ℕ} {t : Turn} {code : ℕ} {r : Answered} → Made n (t .answer) (t .queue) → code ≡ codeOf (t .answer .what) → code ≡ 0 → Took t r
+pub good-make : {k : Current} {n : ℕ} {t : Turn} {code : ℕ} {r : Answered} → Made (byMake n) (t .answer) (t .queue) → code ≡ codeOf (t .answer .what) → code ≡ 0 → Took t r
     → Steps k (Line.Make n) r
 good-make {n = n} made e z took = record {
   kept = record { sound = rw (took .queue) (made .sound) };
@@ -41,13 +41,23 @@ good-make {n = n} made e z took = record {
   counted = took .counted;
 }
 
-pub refused-make : {k : Current} {n : ℕ} {t : Turn} {code : ℕ} {a : Answer} → Kept k → Made n (t .answer) (t .queue) → code ≡ codeOf (t .answer .what) → (code ≡ 0 → ⊥)
+pub refused-make : {k : Current} {n : ℕ} {t : Turn} {code : ℕ} {a : Answer} → Kept k → Made (byMake n) (t .answer) (t .queue) → code ≡ codeOf (t .answer .what) → (code ≡ 0 → ⊥)
     → (told a ≡ ansOf (t .answer)) × Counted a → Steps k (Line.Make n) (record { answer = a; current = k })
 refused-make {n = n} kept made e not-done s = record {
   kept = kept;
   next = rw (ne-eqb (make n .ans .code) 0 (λ z. not-done (sym (made-code made e) ∙ z)));
   reply = s .0 ∙ made .answer;
   counted = s .1;
+}
+
+-- make-u, which is never refused
+pub unbounded-made : {k : Current} {t : Turn} {r : Answered} → Made byMakeU (t .answer) (t .queue) → Took t r → Steps k Line.MakeU r
+unfolding makeU
+unbounded-made made took = record {
+  kept = record { sound = rw (took .queue) (made .sound) };
+  next = rw (took .live, took .queue) (ap some (made .next));
+  reply = took .answer ∙ made .answer;
+  counted = took .counted;
 }
 
 -- another call, of the queue and without one

@@ -1,4 +1,4 @@
--- DOCUMENT 01'S LISTING, as text: the definition's output for its fifteen lines is the document's. And the document's rules on make, on lines
+-- DOCUMENT 01'S LISTING, as text: the definition's output for its fifteen lines is the document's. And the document's rules on make, on make-u, on lines
 -- that cannot be read, on a last line without LF and on empty input, each by an example. Assumes nothing.
 use Prim.Native.Nat.{ℕ}
 use Prim.Native.String.{String}
@@ -7,7 +7,7 @@ use mathlib.Core.List.{List, [], _∷_, _++_}
 use Rattle.lines.specs.Text.{LF, number, rest, words}
 use Rattle.lines.specs.Rows.{bytes, table, place, read, said, parsed}
 use Rattle.lines.specs.Shown.{digits, shown}
-use Rattle.model.specs.Calls.{make, step, trySend, openOut, openIn, pollOut, permitSend, tryRecv, pollIn, dropS, dropR, status}
+use Rattle.model.specs.Calls.{make, makeU, step, trySend, tryRes, openOut, openIn, pollOut, permitSend, tryRecv, pollIn, dropS, dropR, status}
 use Rattle.calls.specs.Whole.{linesOf, answers, output}
 
 -- lines with their LFs
@@ -70,6 +70,27 @@ pub makes :
     ∷ [])
 unfolding linesOf answers number rest words table place read said parsed digits shown make step trySend status
 makes = refl
+
+-- make-u begins an unbounded queue: its free room is shown as `-`, and nothing is reserved there
+pub unbounded :
+    output (text ("make-u" ∷ "try-send 0 7" ∷ "status" ∷ "try-res 0" ∷ "reserve 0" ∷ "send 0 8" ∷ "try-res 1" ∷ "make 0" ∷ "try-recv 0" ∷ "make-u 3" ∷ "try-send 0 9" ∷ "make-u" ∷ "status" ∷ []))
+    ≡ text
+    ("1 0 - - -"
+    ∷ "2 0 - - -"
+    ∷ "3 4 1,-,0,0,0,0 - -"
+    ∷ "4 28 - - -"
+    ∷ "5 28 - - -"
+    ∷ "6 28 - - -"
+    ∷ "7 21 - - -"
+    ∷ "8 20 - - -"
+    ∷ "9 1 7 - -"
+    ∷ "10 24 - - -"
+    ∷ "11 0 - - -"
+    ∷ "12 0 - - -"
+    ∷ "13 4 0,-,0,0,0,0 - -"
+    ∷ [])
+unfolding linesOf answers number rest words table place read said parsed digits shown make makeU step trySend tryRes openOut tryRecv status
+unbounded = refl
 
 -- 24, and reading goes on
 pub bad-lines :

@@ -1,5 +1,5 @@
 -- WHAT A LINE DOES (document 01, "The call program, line by line"): there is no queue yet, or the queue that the last good make began.
--- Everything is said by the definition's `make` and `step`. Assumes nothing.
+-- Everything is said by the definition's `make`, `makeU` and `step`. Assumes nothing.
 use Prim.Native.Nat.{ℕ}
 use mathlib.Core.Path.{_≡_}
 use mathlib.Core.List.{[]}
@@ -8,7 +8,7 @@ use mathlib.Core.Option.{Option, none, some}
 use lib.Dec.{eqb}
 use Rattle.model.specs.Table.{if_then_else_}
 use Rattle.model.specs.Queue as model
-use Rattle.model.specs.Calls.{make, step}
+use Rattle.model.specs.Calls.{make, makeU, step}
 use Rattle.model.specs.declared.Call.{Call}
 use Rattle.lines.specs.declared.Line.{Line}
 use Rattle.lines.specs.declared.Line.the-variants as Line
@@ -47,11 +47,13 @@ reply c (some q) = step c q .ans
 abbrev pub nextOf : Held → Line → Held
 nextOf h Line.Bad = h
 nextOf h (Line.Make n) = begun (make n) h
+nextOf h Line.MakeU = begun makeU h
 nextOf h (Line.Call c) = called c h
 
 abbrev pub replyOf : Held → Line → model.Ans
 replyOf h Line.Bad = bare BAD-LINE
 replyOf h (Line.Make n) = make n .ans
+replyOf h Line.MakeU = makeU .ans
 replyOf h (Line.Call c) = reply c h
 
 -- what the code keeps: its meaning, and what holds of it

@@ -5,10 +5,12 @@ ghost use mathlib.Core.List.{[], _∷_};
 ghost use Rattle.lines.specs.Shown.{told, Counted};
 ghost use Rattle.model.specs.Queue as model;
 ghost use Rattle.side.specs.Meaning.{carried, tokenList};
+ghost use Rattle.queue.specs.declared.What.the-variants.{Status};
 ghost use Rattle.queue.specs.Answers.{codeOf, fieldOf, ansOf};
 ghost use Rattle.calls.specs.Model.{bare};
 ghost use Rattle.calls.specs.Answers.{Says, LetGo};
 use queue::Counts;
+use queue::Room;
 use queue::What;
 use side::Cargo;
 use side::OptToken;
@@ -25,7 +27,7 @@ pub struct Gone {
     pub n: usize,
 }
 
-// No number, one, or status's six.
+// No number, one, or status's counts.
 fn none() -> Field
     ensures { λ r. ⌜ Says r [] ⌝ }
 {
@@ -44,12 +46,20 @@ fn one(v: u32) -> Field
     }
 }
 
-fn six(c: Counts) -> Field
-    ensures { λ r. ⌜ Says r (c .queued ∷ c .free ∷ c .permits ∷ c .granted ∷ c .lined ∷ c .waiting ∷ []) ⌝ }
+// An unbounded queue has no free room to show: five numbers.
+fn counts(c: Counts) -> Field
+    ensures { λ r. ⌜ Says r (fieldOf (Status c)) ⌝ }
 {
-    Field {
-        all: [c.queued, c.free, c.permits, c.granted, c.lined, c.waiting],
-        n: 6,
+    let free = c.free;
+    match free {
+        Room::Slots(room) => Field {
+            all: [c.queued, room, c.permits, c.granted, c.lined, c.waiting],
+            n: 6,
+        },
+        Room::Unbounded => Field {
+            all: [c.queued, c.permits, c.granted, c.lined, c.waiting, 0],
+            n: 5,
+        },
     }
 }
 
@@ -81,6 +91,8 @@ pub(crate) fn code(what: What) -> u32
         What::NoHandle => 21,
         What::InUse => 22,
         What::NoRoom => 23,
+        What::RingFull => 25,
+        What::WrongKind => 28,
     }
 }
 
@@ -94,7 +106,7 @@ fn numbers(what: What) -> Field
         What::Value(v) => one(v),
         What::Given(n) => one(n),
         What::Pending => none(),
-        What::Status(c) => six(c),
+        What::Status(c) => counts(c),
         What::Full(c) => cargo(c),
         What::Empty => none(),
         What::Disconnected(c) => cargo(c),
@@ -102,6 +114,8 @@ fn numbers(what: What) -> Field
         What::NoHandle => none(),
         What::InUse => none(),
         What::NoRoom => none(),
+        What::RingFull => none(),
+        What::WrongKind => none(),
     }
 }
 

@@ -61,6 +61,7 @@ impl Current {
                 current: self,
             },
             Line::Make(capacity) => self.make(capacity),
+            Line::MakeU => took(Queue::make_u()),
             Line::Call(call) => self.call(call),
         }
     }

@@ -7,10 +7,11 @@ use native.Mathlib.Omega.{arith}
 use native.Mathlib.Nat.{add-zero}
 use native.Mathlib.Numerals.{add-one}
 use lib.ListN.{length, getD, drop, take, set, length-append, length-set}
-use lib.Seq.{take-suc, take-suc-set, drop-cons, getD-set-same, drop-set-lt, drop-drop, length-take-le}
-use lib.Dec.{ltb}
-use borrow.Author.Tests.{lt-ltb, le-ltb}
-use Rattle.lines.specs.Shown.{digitOf, digits, dec, after, decs, answered, shown, Put}
+use lib.Seq.{take-suc, take-suc-set, drop-cons, getD-set-same, drop-set-lt, drop-drop, length-take-le, take-all}
+use lib.Dec.{eqb, ltb}
+use borrow.Author.Tests.{lt-ltb, le-ltb, eq-eqb, ne-eqb, eqb-true}
+use Rattle.model.specs.Queue.{STATUS}
+use Rattle.lines.specs.Shown.{digitOf, digits, dec, after, decs, fieldText, answered, shown, Put}
 
 -- one byte more
 pub put-step : (out : List ℕ) (p v : ℕ) (pre t : List ℕ) → p < length out → take p out ≡ pre ++ t → take (p + 1) (set out p v) ≡ pre ++ (t ++ v ∷ [])
@@ -95,17 +96,37 @@ pub decs-none : (xs : List ℕ) → length xs ≡ 0 → decs xs ≡ 45 ∷ []
 decs-none [] h = refl
 decs-none (x ∷ xs) h = absurd (omega arith)
 
+-- ---- an answer's field, by the code's two tests
+-- a status of five counts: the first, `,-,` and the others
+field-dashed : (code : ℕ) (field : List ℕ) → code ≡ STATUS → eqb (length field) 5 ≡ true
+    → fieldText code field ≡ dec (getD field 0 0) ++ ((44 ∷ 45 ∷ 44 ∷ []) ++ decs (take (length field - 1) (drop 1 field)))
+field-dashed code [] is five = absurd (omega (arith, eqb-true))
+field-dashed code (x ∷ []) is five = absurd (omega (arith, eqb-true))
+field-dashed code (x ∷ y ∷ xs) is five = rw (eq-eqb code STATUS is, five, take-all (suc (suc (length xs)) - 1) (y ∷ xs) (omega arith))
+
+pub put-dashed : (code : ℕ) (field : List ℕ) {a b c d : List ℕ} {p q r s x : ℕ} → code ≡ STATUS → eqb (length field) 5 ≡ true → x ≡ getD field 0 0
+    → Put a b p q (dec x) → Put b c q r (44 ∷ 45 ∷ 44 ∷ []) → Put c d r s (decs (take (length field - 1) (drop 1 field)) ++ (32 ∷ []))
+    → Put a d p s (fieldText code field ++ (32 ∷ []))
+put-dashed code field is five e x y z = rw (field-dashed code field is five, append-assoc, ← e) (put-both x (put-both y z))
+
+-- any other field: its numbers
+pub field-counted : (code : ℕ) (field : List ℕ) → code ≡ STATUS → eqb (length field) 5 ≡ false → fieldText code field ≡ decs field
+field-counted code field is other = rw (eq-eqb code STATUS is, other)
+
+pub field-plain : (code : ℕ) (field : List ℕ) → (code ≡ STATUS → ⊥) → fieldText code field ≡ decs field
+field-plain code field other = rw (ne-eqb code STATUS other)
+
 -- ---- an output line, of its four parts
 pub shown-put : (n code : ℕ) (field wakes retired : List ℕ) {a b c d e : List ℕ} {p q r s t : ℕ}
-    → Put a b p q (dec n ++ (32 ∷ (dec code ++ (32 ∷ [])))) → Put b c q r (decs field ++ (32 ∷ [])) → Put c d r s (decs wakes ++ (32 ∷ [])) → Put d e s t (decs retired ++ (10 ∷ []))
+    → Put a b p q (dec n ++ (32 ∷ (dec code ++ (32 ∷ [])))) → Put b c q r (fieldText code field ++ (32 ∷ [])) → Put c d r s (decs wakes ++ (32 ∷ [])) → Put d e s t (decs retired ++ (10 ∷ []))
     → Put a e p t (shown n (answered code field wakes retired))
 unfolding shown
 shown-put n code field wakes retired {a = a} {e = e} {p = p} {t = t} w x y z =
     subst (Put a e p t)
-    (append-assoc (dec n) (32 ∷ (dec code ++ (32 ∷ []))) (decs field ++ (32 ∷ []) ++ (decs wakes ++ (32 ∷ []) ++ (decs retired ++ (10 ∷ []))))
+    (append-assoc (dec n) (32 ∷ (dec code ++ (32 ∷ []))) (fieldText code field ++ (32 ∷ []) ++ (decs wakes ++ (32 ∷ []) ++ (decs retired ++ (10 ∷ []))))
     ∙ ap (λ (l : List ℕ). dec n ++ (32 ∷ l))
-    (append-assoc (dec code) (32 ∷ []) (decs field ++ (32 ∷ []) ++ (decs wakes ++ (32 ∷ []) ++ (decs retired ++ (10 ∷ []))))
+    (append-assoc (dec code) (32 ∷ []) (fieldText code field ++ (32 ∷ []) ++ (decs wakes ++ (32 ∷ []) ++ (decs retired ++ (10 ∷ []))))
     ∙ ap (λ (l : List ℕ). dec code ++ (32 ∷ l))
-    (append-assoc (decs field) (32 ∷ []) (decs wakes ++ (32 ∷ []) ++ (decs retired ++ (10 ∷ [])))
-    ∙ ap (λ (l : List ℕ). decs field ++ (32 ∷ l)) (append-assoc (decs wakes) (32 ∷ []) (decs retired ++ (10 ∷ []))))))
+    (append-assoc (fieldText code field) (32 ∷ []) (decs wakes ++ (32 ∷ []) ++ (decs retired ++ (10 ∷ [])))
+    ∙ ap (λ (l : List ℕ). fieldText code field ++ (32 ∷ l)) (append-assoc (decs wakes) (32 ∷ []) (decs retired ++ (10 ∷ []))))))
     (put-both w (put-both x (put-both y z)))

@@ -40,6 +40,7 @@ unfoldable pub table : List Row
 table =
     row "make" none (λ n. Line.Make 8)
     ∷ row "make" one (λ n. Line.Make (n 0))
+    ∷ row "make-u" none (λ n. Line.MakeU)
     ∷ row "clone-s" one (λ n. Line.Call (Call.CloneS (n 0)))
     ∷ row "clone-r" one (λ n. Line.Call (Call.CloneR (n 0)))
     ∷ row "try-send" two (λ n. Line.Call (Call.TrySend (n 0) (n 1)))
@@ -61,7 +62,7 @@ table =
 
 -- how many rows there are
 abbrev pub rowCount : ℕ
-rowCount = 19
+rowCount = 20
 
 -- what stands past the table's end: any line of it is bad
 abbrev pub noRow : Row

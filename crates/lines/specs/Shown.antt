@@ -2,10 +2,10 @@
 use Prim.Native.Nat.{ℕ, zero, suc, _+_, _/_, _%_, _≤_}
 use mathlib.Core.Path.{_≡_}
 use mathlib.Core.List.{List, [], _∷_, _++_, map}
-use mathlib.Core.Bool.{cond}
+use mathlib.Core.Bool.{Bool, cond, _&&_}
 use lib.ListN.{length, take, drop}
-use lib.Dec.{ltb}
-use Rattle.model.specs.Queue.{Ans}
+use lib.Dec.{eqb, ltb}
+use Rattle.model.specs.Queue.{Ans, STATUS}
 use Rattle.lines.specs.Text.{space, comma, dash, LF}
 use Rattle.lines.specs.declared.show.Answer.{Answer}
 
@@ -34,6 +34,18 @@ joined (t ∷ ts) = t ++ after ts
 abbrev pub decs : List ℕ → List ℕ
 decs ns = joined (map dec ns)
 
+-- is it the status of an unbounded queue: five counts, where a bounded one's has the free room besides, in the second place
+abbrev pub roomless : ℕ → List ℕ → Bool
+roomless code field = eqb code STATUS && eqb (length field) 5
+
+-- texts with a `-` in the second place
+abbrev pub dashed : List (List ℕ) → List (List ℕ)
+dashed ts = take 1 ts ++ ((dash ∷ []) ∷ drop 1 ts)
+
+-- an answer's field: its numbers, and for the free room that an unbounded queue does not count, `-`
+abbrev pub fieldText : ℕ → List ℕ → List ℕ
+fieldText code field = joined (cond (roomless code field) (dashed (map dec field)) (map dec field))
+
 -- an answer of these parts
 abbrev pub answered : ℕ → List ℕ → List ℕ → List ℕ → Ans
 answered code field wakes retired = record { code = code; field = field; wakes = wakes; retired = retired }
@@ -41,7 +53,7 @@ answered code field wakes retired = record { code = code; field = field; wakes =
 -- line number, code, field, wakes and retired, parted by spaces, and LF
 unfoldable pub shown : ℕ → Ans → List ℕ
 shown n a =
-    dec n ++ (space ∷ (dec (a .code) ++ (space ∷ (decs (a .field) ++ (space ∷ (decs (a .wakes) ++ (space ∷ (decs (a .retired) ++ (LF ∷ [])))))))))
+    dec n ++ (space ∷ (dec (a .code) ++ (space ∷ (fieldText (a .code) (a .field) ++ (space ∷ (decs (a .wakes) ++ (space ∷ (decs (a .retired) ++ (LF ∷ [])))))))))
 
 -- what the code's answer says, and that its counts are within its arrays
 abbrev pub told : Answer → Ans

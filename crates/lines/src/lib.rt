@@ -7,9 +7,10 @@ pub use names::parse;
 pub use show::Answer;
 pub use show::print;
 
-// What a line says: nothing that can be read, a make with its capacity, or another call with its numbers.
+// What a line says: nothing that can be read, a make with its capacity, a make-u, or another call with its numbers.
 pub enum Line {
     Bad,
     Make(u32),
+    MakeU,
     Call(model::Call),
 }

@@ -10,15 +10,16 @@ use crate::text::spaces;
 use crate::text::word_end;
 use model::Call;
 
-const ROWS: usize = 19;
+const ROWS: usize = 20;
 
 // The table of names: of each row how many numbers follow the name, the name's length, the name, and zeros up to thirteen bytes.
-fn names() -> [u8; 247]
+fn names() -> [u8; 260]
     ensures { λ r. ⌜ r ≡ flat ⌝ }
 {
     *b"\
         \x00\x04make\0\0\0\0\0\0\0\
         \x01\x04make\0\0\0\0\0\0\0\
+        \x00\x06make-u\0\0\0\0\0\
         \x01\x07clone-s\0\0\0\0\
         \x01\x07clone-r\0\0\0\0\
         \x02\x08try-send\0\0\0\
@@ -40,7 +41,7 @@ fn names() -> [u8; 247]
 }
 
 // Is it row k's line: the name w with n numbers?
-fn is_row(names: &[u8; 247], k: usize, w: &[u8], n: usize) -> bool
+fn is_row(names: &[u8; 260], k: usize, w: &[u8], n: usize) -> bool
     requires { ⌜ now names ≡ flat ⌝ }
     requires { ⌜ k < rowCount ⌝ }
     ensures { λ r. ⌜ r ≡ fits (now (w .entry)) n (rowAt k) ⌝ }
@@ -93,23 +94,24 @@ fn line_of(k: usize, ns: [u64; 2]) -> Line
     match k {
         0 => Line::Make(8),
         1 => Line::Make(a),
-        2 => Line::Call(Call::CloneS(a)),
-        3 => Line::Call(Call::CloneR(a)),
-        4 => Line::Call(Call::TrySend(a, b)),
-        5 => Line::Call(Call::TryRes(a)),
-        6 => Line::Call(Call::Reserve(a)),
-        7 => Line::Call(Call::Send(a, b)),
-        8 => Line::Call(Call::Recv(a)),
-        9 => Line::Call(Call::PollOut(a, b)),
-        10 => Line::Call(Call::CancelOut(a)),
-        11 => Line::Call(Call::PermitSend(a, b)),
-        12 => Line::Call(Call::PermitDrop(a)),
-        13 => Line::Call(Call::TryRecv(a)),
-        14 => Line::Call(Call::PollIn(a, b)),
-        15 => Line::Call(Call::CancelIn(a)),
-        16 => Line::Call(Call::DropS(a)),
-        17 => Line::Call(Call::DropR(a)),
-        18 => Line::Call(Call::Status),
+        2 => Line::MakeU,
+        3 => Line::Call(Call::CloneS(a)),
+        4 => Line::Call(Call::CloneR(a)),
+        5 => Line::Call(Call::TrySend(a, b)),
+        6 => Line::Call(Call::TryRes(a)),
+        7 => Line::Call(Call::Reserve(a)),
+        8 => Line::Call(Call::Send(a, b)),
+        9 => Line::Call(Call::Recv(a)),
+        10 => Line::Call(Call::PollOut(a, b)),
+        11 => Line::Call(Call::CancelOut(a)),
+        12 => Line::Call(Call::PermitSend(a, b)),
+        13 => Line::Call(Call::PermitDrop(a)),
+        14 => Line::Call(Call::TryRecv(a)),
+        15 => Line::Call(Call::PollIn(a, b)),
+        16 => Line::Call(Call::CancelIn(a)),
+        17 => Line::Call(Call::DropS(a)),
+        18 => Line::Call(Call::DropR(a)),
+        19 => Line::Call(Call::Status),
         _ => Line::Bad,
     }
 }

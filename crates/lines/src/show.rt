@@ -4,7 +4,10 @@ ghost use Prim.Native.Nat.{_+_, _*_, _≤_};
 ghost use mathlib.Core.List.{[], _∷_, _++_};
 ghost use lib.ListN.{length};
 ghost use Rattle.lines.specs.Text.{space};
-ghost use Rattle.lines.specs.Shown.{Put, Counted, dec, decs, shown, answered, told};
+ghost use Rattle.lines.specs.Shown.{Put, Counted, dec, decs, fieldText, shown, answered, told};
+
+// The code of an answer that shows counts.
+const STATUS: u32 = 4;
 
 // One byte.
 fn put(out: &mut [u8], at: usize, b: u8) -> usize
@@ -96,6 +99,20 @@ fn put_item(out: &mut [u8], at: usize, xs: &[u32], end: u8) -> usize
     put(out, a, end)
 }
 
+// An answer's field, a space behind it. A status of five counts is that of an unbounded queue: `-` stands in the place of its free room.
+fn put_field(out: &mut [u8], at: usize, code: u32, field: &[u32]) -> usize
+    requires { ⌜ at + 21 * length (now field) + 4 ≤ length (now out) ⌝ }
+    ensures { λ r. ⌜ Put (now (out .entry)) (now (out .exit)) at r (fieldText code (now (field .entry)) ++ (space ∷ [])) ⌝ }
+    ensures { λ r. ⌜ r ≤ at + 21 * length (now (field .entry)) + 4 ⌝ }
+{
+    if code == STATUS && field.len() == 5 {
+        let a = put_dec(out, at, wide(field[0]));
+        let b = put_all(out, a, b",-,");
+        return put_item(out, b, &field[1..], b' ');
+    }
+    put_item(out, at, field, b' ')
+}
+
 // An answer's line, its LF with it.
 fn put_line(
     out: &mut [u8],
@@ -114,7 +131,7 @@ fn put_line(
     ensures { λ r. ⌜ r ≤ at + 1024 ⌝ }
 {
     let a = put_head(out, at, line, code);
-    let b = put_item(out, a, field, b' ');
+    let b = put_field(out, a, code, field);
     let c = put_item(out, b, wakes, b' ');
     put_item(out, c, retired, b'\n')
 }

@@ -10,12 +10,12 @@ use lib.ListN.{length, take, drop}
 use borrow.Author.Tests.{eq-eqb, ne-eqb, lt-ltb}
 use Rattle.model.specs.Table.{Table, lookup, clear, of, live, same, if_then_else_}
 use Rattle.model.specs.Side.{Stage, idle, waiting, called, void, Op, Side, waits, isCalled, kept, keptAt, without, ended, callFirst, firstToken, tokensOf}
-use Rattle.model.specs.Queue.{Queue, Job, Moved, Result, noReceiver, noSender, release, releaseTo, setOuts, DONE}
+use Rattle.model.specs.Queue.{Queue, Job, Room, slots, unbounded, Moved, Result, noReceiver, noFree, noneOf, noSender, release, releaseTo, setOuts, DONE}
 use Rattle.model.specs.Calls.{step}
 use Rattle.model.specs.Promises.{queued, sendersLeft, Open, NoEasyError}
 use Rattle.model.proofs.TableLaws.{if-cases, same-yes, has-live, of-le, lookup-clear-other}
 use Rattle.model.proofs.SideLaws.{occurs, opWaits, opCalled, Sound}
-use Rattle.model.proofs.Kept.{Inv}
+use Rattle.model.proofs.Kept.{Stored, Inv, none-reserved}
 use Rattle.model.proofs.Leaves.{trySend-full, pollOut-pending, cancelOut-granted, cancelOut-other, pollIn-pending, cancelIn-passed, cancelIn-other}
 
 -- ---- an operation that is not in line ends: the line and its tokens stay
@@ -73,11 +73,19 @@ passed q r p = ap (λ (b : Bool). if b then record { wakes = []; next = q } else
     go [] e = absurd (omega (arith, ap length e))
     go (m ∷ l) e = ap (λ (x : List ℕ). releaseTo x q) e
 
+-- ---- a sender in line: the queue is bounded, and without free room
+full : (q : Queue) → Inv 0 0 q → 0 < length (q .outs .line) → noFree q ≡ true
+full q i p = go (q .free) refl (i .account .stored)
+  where
+    go : (f : Room) → q .free ≡ f → Stored f (i .account .left) (q .cap) → noneOf f ≡ true
+    go (slots n) e s = eq-eqb n 0 (let t = i .account .tight p in omega arith)
+    go unbounded e s = absurd (omega (arith, i .outs .long, none-reserved q (i .sOwn) e .outs opWaits))
+
 pub no-easy-error : (q : Queue) → Inv 0 0 q → NoEasyError q
 unfolding step
 no-easy-error q i =
     record {
-      nobodyPassed = λ s v m e r p. trySend-full s v q m e (ne-eqb (live (q .receivers)) 0 (λ z. omega arith)) (eq-eqb (q .free) 0 (i .account .tight p));
+      nobodyPassed = λ s v m e r p. trySend-full s v q m e (ne-eqb (live (q .receivers)) 0 (λ z. omega arith)) (full q i p);
       senderKeepsPlace = λ n t h k j e r.
           ap (λ (x : Result). x .next .outs .line)
           (pollOut-pending n t q (record { owner = h; job = j; stage = waiting k }) e (ne-eqb (live (q .receivers)) 0 (λ z. omega arith)) refl refl);

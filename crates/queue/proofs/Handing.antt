@@ -2,7 +2,7 @@
 use Prim.Native.Nat.{ℕ, _+_, _-_, _<_, _≤_}
 use mathlib.Core.Path.{_≡_, refl, sym, ap, ap₂, _∙_, subst}
 use mathlib.Core.Bool.{Bool, true, false, not}
-use mathlib.Core.List.{List, [], _∷_}
+use mathlib.Core.List.{List, [], _∷_, _++_}
 use native.Mathlib.Omega.{arith}
 use borrow.Author.Tests.{lt-ltb, le-ltb}
 use lib.Dec.{ltb}
@@ -26,7 +26,7 @@ use Rattle.model.specs.Table.{Table, lookup, clear, live, sum}
 use Rattle.model.specs.Side as side
 use Rattle.model.specs.Queue as model
 use Rattle.model.specs.declared.Call.the-variants.{CloneS, CloneR, DropS, DropR, Status}
-use Rattle.model.specs.Calls.{step, status}
+use Rattle.model.specs.Calls.{step, shown, status}
 use Rattle.model.proofs.Leaves.{cloneS-dead, cloneS-full, cloneS-given, cloneR-dead, cloneR-full, cloneR-given}
 use Rattle.model.proofs.Leaves.{dropS-dead, dropS-busy, dropS-last, dropS-other, dropR-dead, dropR-busy, dropR-last, dropR-other}
 use Rattle.queue.specs.declared.Queue.{Queue}
@@ -34,7 +34,7 @@ use Rattle.queue.specs.declared.Counts.{Counts}
 use Rattle.queue.specs.declared.What.the-variants.{Done, Discarded, Given as WGiven, Status as WStatus, NoHandle, InUse, NoRoom}
 use Rattle.queue.specs.declared.Answer.{Answer}
 use Rattle.queue.specs.declared.Turn.{Turn}
-use Rattle.queue.specs.Meaning.{queueOf, Shaped, Sound}
+use Rattle.queue.specs.Meaning.{roomOf, queueOf, Shaped, Sound}
 use Rattle.queue.specs.Answers.{fieldOf}
 use Rattle.queue.specs.Promise.{Turned}
 use Rattle.queue.specs.Steps.{Says, Silences, silenced, Discards, discarded, Counted}
@@ -200,5 +200,5 @@ status-is q s a snd k u =
     stays q Status (WStatus s) a snd u
     (ap (λ (f : List ℕ). model.reply model.STATUS f [] [] (queueOf q)) fields)
   where
-    fields : fieldOf (WStatus s) ≡ length (ring.values (q .values)) ∷ q .free ∷ live (permitsOf (q .permits)) ∷ side.calledCount (sideOf (q .outs)) ∷ length (sideOf (q .outs) .line) ∷ side.polledCount (sideOf (q .ins)) ∷ []
+    fields : fieldOf (WStatus s) ≡ length (ring.values (q .values)) ∷ shown (roomOf (q .free .room)) ++ live (permitsOf (q .permits)) ∷ side.calledCount (sideOf (q .outs)) ∷ length (sideOf (q .outs) .line) ∷ side.polledCount (sideOf (q .ins)) ∷ []
     fields = let h1 = k .queued in let h2 = k .free in let h3 = k .permits in let h4 = k .granted in let h5 = k .lined in let h6 = k .waiting in cc

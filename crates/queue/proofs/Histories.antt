@@ -1,10 +1,9 @@
--- WHOLE HISTORIES: every run from make has the definition's answers and ends in the definition's queue, and demand 3 holds all the way.
+-- WHOLE HISTORIES: every run from make or make-u has the definition's answers and ends in the definition's queue, and demand 3 holds all the way.
 -- Assumes nothing.
-use Prim.Native.Nat.{ℕ}
 use mathlib.Core.Path.{_≡_, refl, sym, ap, ap₂, _∙_, subst}
 use mathlib.Core.List.{List, _∷_, map}
 use Rattle.model.specs.declared.Call.{Call}
-use Rattle.model.specs.Calls.{answers, after}
+use Rattle.model.specs.Calls.{Begin, answers, after}
 use Rattle.model.specs.Queue as model
 use Rattle.model.specs.Promises.{Demand3}
 use Rattle.model.proofs.Theorems.{demand3}
@@ -15,9 +14,9 @@ use Rattle.queue.specs.Answers.{ansOf}
 use Rattle.queue.specs.Promise.{Made}
 use Rattle.queue.specs.Histories.{Run, done, then, Kept, Always, last, more}
 
--- demand 3 holds of every sound queue, since it came from make and calls
+-- demand 3 holds of every sound queue, since it came from make or make-u and calls
 pub sound-demand3 : (q : Queue) → Sound q → Demand3 (queueOf q)
-sound-demand3 q s = subst Demand3 (sym (s .came .is)) (demand3 (s .came .capacity) (s .came .calls))
+sound-demand3 q s = subst Demand3 (sym (s .came .is)) (demand3 (s .came .begun) (s .came .calls))
 
 run-answers : {q q₂ : Queue} {cs : List Call} {al : List Answer} → Run q cs al q₂ → map ansOf al ≡ answers cs (queueOf q)
 unfolding answers
@@ -37,9 +36,9 @@ run-always : {q q₂ : Queue} {cs : List Call} {al : List Answer} → Sound q �
 run-always {q} s done = last (sound-demand3 q s)
 run-always {q} s (then t r) = more (sound-demand3 q s) (run-always (t .sound) r)
 
--- THE THEOREM: make with any number, then any calls
-pub history : (n : ℕ) (a : Answer) (q q₂ : Queue) (cs : List Call) (al : List Answer) → Made n a q → Run q cs al q₂ → Kept n cs al q₂
-history n a q q₂ cs al m r =
+-- THE THEOREM: make with any number or make-u, then any calls
+pub history : (b : Begin) (a : Answer) (q q₂ : Queue) (cs : List Call) (al : List Answer) → Made b a q → Run q cs al q₂ → Kept b cs al q₂
+history b a q q₂ cs al m r =
     record {
       sound = run-sound (m .sound) r;
       answers = run-answers r ∙ ap (answers cs) (m .next);
@@ -47,5 +46,5 @@ history n a q q₂ cs al m r =
       demand3 = sound-demand3 q₂ (run-sound (m .sound) r);
     }
 
-pub always : (n : ℕ) (a : Answer) (q q₂ : Queue) (cs : List Call) (al : List Answer) → Made n a q → (r : Run q cs al q₂) → Always Demand3 q cs al q₂ r
-always n a q q₂ cs al m r = run-always (m .sound) r
+pub always : (b : Begin) (a : Answer) (q q₂ : Queue) (cs : List Call) (al : List Answer) → Made b a q → (r : Run q cs al q₂) → Always Demand3 q cs al q₂ r
+always b a q q₂ cs al m r = run-always (m .sound) r

@@ -5,6 +5,7 @@ pub mod Sent
 pub mod Polled
 pub mod Receiving
 pub mod Taken
+pub mod FreeRoom
 pub mod Handing
 pub mod Making
 pub mod Histories

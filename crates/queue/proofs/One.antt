@@ -1,9 +1,10 @@
--- ONE ANSWER: any two results that the promise of a call allows tell the same and mean the same, and so for make; after a refusal they are the
+-- ONE ANSWER: any two results that the promise of a call allows tell the same and mean the same, and so for both makes; after a refusal they are the
 -- same record. Assumes nothing.
 use Prim.Native.Nat.{ℕ, _≤_}
 use mathlib.Core.Path.{_≡_, sym, ap, _∙_, subst}
 use Rattle.model.specs.Queue as model
 use Rattle.model.specs.declared.Call.{Call}
+use Rattle.model.specs.Calls.{Begin}
 use Rattle.queue.specs.declared.Queue.{Queue}
 use Rattle.queue.specs.declared.Answer.{Answer}
 use Rattle.queue.specs.Answers.{codeOf}
@@ -17,5 +18,5 @@ pub one-refusal : (q : Queue) (c : Call) (a a′ : Answer) (q₁ q₁′ : Queue
 one-refusal q c a a′ q₁ q₁′ t u h =
     t .same h ∙ sym (u .same (subst (λ (n : ℕ). 20 ≤ n) (ap (λ (x : model.Ans). x .code) (t .answer ∙ sym (u .answer))) h))
 
-pub one-make : (n : ℕ) (a a′ : Answer) (q q′ : Queue) → Made n a q → Made n a′ q′ → Same a q a′ q′
-one-make n a a′ q q′ t u = record { answer = t .answer ∙ sym (u .answer); meaning = t .next ∙ sym (u .next) }
+pub one-make : (b : Begin) (a a′ : Answer) (q q′ : Queue) → Made b a q → Made b a′ q′ → Same a q a′ q′
+one-make b a a′ q q′ t u = record { answer = t .answer ∙ sym (u .answer); meaning = t .next ∙ sym (u .next) }

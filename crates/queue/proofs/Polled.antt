@@ -33,22 +33,24 @@ use Rattle.side.specs.Meaning.{sideOf, stageOf, tokenList, wokenTokens}
 use Rattle.side.specs.Calls.{Open, Sees, Opens, Ends, Pends, CallsOne}
 use Rattle.model.specs.Table.{lookup, live, size}
 use Rattle.model.specs.Side as side
+use Rattle.model.specs.Queue as model
 use Rattle.model.specs.declared.Call.the-variants.{PollOut, CancelOut}
 use Rattle.queue.specs.declared.Queue.{Queue}
+use Rattle.queue.specs.declared.available.Available.{Available}
 use Rattle.queue.specs.declared.What.{What}
-use Rattle.queue.specs.declared.What.the-variants.{Done, Given as WGiven, Pending, Disconnected, NoHandle, NoRoom}
+use Rattle.queue.specs.declared.What.the-variants.{Done, Given as WGiven, Pending, Disconnected, NoHandle, NoRoom, WrongKind}
 use Rattle.queue.specs.declared.Answer.{Answer}
 use Rattle.queue.specs.declared.Turn.{Turn}
 use Rattle.queue.specs.declared.outgoing.Outcome.{Outcome}
 use Rattle.queue.specs.declared.outgoing.Outcome.the-variants.{NoHandle as NoOperation, Gone, Permit, Push, Stays}
-use Rattle.queue.specs.Meaning.{Shaped, Sound}
+use Rattle.queue.specs.Meaning.{roomOf, queueOf, Shaped, Sound}
 use Rattle.queue.specs.Promise.{Turned}
 use Rattle.queue.specs.Steps.{Says, opening, ready, withSlot, Slot, Comes, givenBy}
 use Rattle.queue.specs.Steps as steps
 use Rattle.queue.proofs.Moves.{Notifies, Releases, Completes}
 use Rattle.queue.proofs.Settled.{kept, turned-as, said-as, withValues, withFree, withPermits, withOuts, withIns, found-open}
-use Rattle.queue.proofs.Sending.{out-dead, out-full, out-given, notify-nobody, notify-one, pushed, shaped-pushed, complete-push, complete-given, spare, ready-free}
-use Rattle.queue.proofs.Sending.{poll-dead, sees-found, poll-gone, poll-granted, poll-room, poll-pending, granted, room-granted, room-ready, shaped-ended, shaped-taken}
+use Rattle.queue.proofs.Sending.{out-dead, out-wrong, out-full, out-given, notify-nobody, notify-one, pushed, shaped-pushed, complete-push, complete-given, spare}
+use Rattle.queue.proofs.Sending.{poll-dead, sees-found, poll-gone, poll-granted, poll-room, poll-pending, granted, room-granted, room-ready, spare-ready, shaped-ended, shaped-taken}
 use Rattle.queue.proofs.Sending.{release-gone, release-free, release-grant, cancel-dead, cancel-granted, cancel-other}
 
 -- ---- open_out
@@ -56,43 +58,48 @@ module _ (q : Queue) (snd : Sound q) (s : ℕ) (c : Cargo) (b : Bool) (e : b ≡
   pub open-dead : b ≡ false → q′ ≡ q → what ≡ NoHandle → Turned q (opening c s) a q′
   open-dead d x y = turned-as q (opening c s) a q q′ x (out-dead q snd s c b e a (ap not d) (said-as what NoHandle Nobody Nobody NoToken NoToken a y refl refl u))
 
-  module _ (d : b ≡ true) (o : Opened) (k : Opens (q .outs) s c o) where
-    pub open-full : o .number ≡ NoNumber → q′ ≡ q → what ≡ NoRoom → Turned q (opening c s) a q′
-    open-full f x y = turned-as q (opening c s) a q q′ x (out-full q snd s c b e (ap not d) o k a f (said-as what NoRoom Nobody Nobody NoToken NoToken a y refl refl u))
+  module _ (g : Bool) (h : g ≡ model.isUnbounded (queueOf q)) where
+    pub open-wrong : b ≡ true → g ≡ true → q′ ≡ q → what ≡ WrongKind → Turned q (opening c s) a q′
+    open-wrong d w x y = turned-as q (opening c s) a q q′ x (out-wrong q snd s c b e a (ap not d) (sym h ∙ w) (said-as what WrongKind Nobody Nobody NoToken NoToken a y refl refl u))
 
-    pub open-given : (n : ℕ) → o .number ≡ GivenNo n → q′ ≡ withOuts (o .side) q → what ≡ WGiven n → Turned q (opening c s) a q′
-    open-given n f x y = turned-as q (opening c s) a (withOuts (o .side) q) q′ x (out-given q snd s c b e (ap not d) o k n a f (said-as what (WGiven n) Nobody Nobody NoToken NoToken a y refl refl u))
+    module _ (d : b ≡ true) (w : g ≡ false) (o : Opened) (k : Opens (q .outs) s c o) where
+      pub open-full : o .number ≡ NoNumber → q′ ≡ q → what ≡ NoRoom → Turned q (opening c s) a q′
+      open-full f x y = turned-as q (opening c s) a q q′ x (out-full q snd s c b e (ap not d) (sym h ∙ w) o k a f (said-as what NoRoom Nobody Nobody NoToken NoToken a y refl refl u))
+
+      pub open-given : (n : ℕ) → o .number ≡ GivenNo n → q′ ≡ withOuts (o .side) q → what ≡ WGiven n → Turned q (opening c s) a q′
+      open-given n f x y = turned-as q (opening c s) a (withOuts (o .side) q) q′ x (out-given q snd s c b e (ap not d) (sym h ∙ w) o k n a f (said-as what (WGiven n) Nobody Nobody NoToken NoToken a y refl refl u))
 
 -- ---- with_slot, outcome_open, outcome_of
-pub slot-reserve : (c : Cargo) (s f : ℕ) → c ≡ Nothing → Permit s f ≡ withSlot c s f
+pub slot-reserve : (c : Cargo) (s : ℕ) (f : Available) → c ≡ Nothing → Permit s f ≡ withSlot c s f
 slot-reserve c s f e = sym (ap (λ (x : Cargo). withSlot x s f) e)
 
-pub slot-send : (c : Cargo) (s f v : ℕ) → c ≡ CValue v → Push v f ≡ withSlot c s f
+pub slot-send : (c : Cargo) (s : ℕ) (f : Available) (v : ℕ) → c ≡ CValue v → Push v f ≡ withSlot c s f
 slot-send c s f v e = sym (ap (λ (x : Cargo). withSlot x s f) e)
 
-module _ (e : Entry) (left free : ℕ) where
+module _ (e : Entry) (left : ℕ) (free : Available) where
   pub comes-gone : left ≡ 0 → Comes (Found e) left free (Gone (e .cargo))
   comes-gone z = (e, refl, z, refl)
 
   module _ (z : left ≡ 0 → ⊥) (b : Bool) (h : b ≡ steps.granted e) where
-    slotted : (rest : ℕ) → Slot e free rest → (c : Cargo) → e .cargo ≡ c → Comes (Found e) left free (withSlot c (e .owner) rest)
+    slotted : (rest : Available) → Slot e free rest → (c : Cargo) → e .cargo ≡ c → Comes (Found e) left free (withSlot c (e .owner) rest)
     slotted rest w Nothing f = (e, refl, z, f, refl, w)
     slotted rest w (CValue v) f = (e, refl, z, f, w)
 
-    as-slotted : (rest : ℕ) → Slot e free rest → (r : Outcome) → r ≡ withSlot (e .cargo) (e .owner) rest → Comes (Found e) left free r
+    as-slotted : (rest : Available) → Slot e free rest → (r : Outcome) → r ≡ withSlot (e .cargo) (e .owner) rest → Comes (Found e) left free r
     as-slotted rest w r x = subst (λ (y : Outcome). Comes (Found e) left free y) (sym x) (slotted rest w (e .cargo) refl)
 
     pub comes-granted : (r : Outcome) → b ≡ true → r ≡ withSlot (e .cargo) (e .owner) free → Comes (Found e) left free r
     comes-granted r y x = as-slotted free (inl (sym h ∙ y, refl)) r x
 
-    module _ (n : b ≡ false) (b2 : Bool) (j : b2 ≡ ready (stageOf (e .stage)) free) where
-      pub comes-room : (r : Outcome) → b2 ≡ true → r ≡ withSlot (e .cargo) (e .owner) (free - 1) → Comes (Found e) left free r
-      comes-room r y x = as-slotted (free - 1) (inr (sym h ∙ n, sym j ∙ y, refl)) r x
+    module _ (n : b ≡ false) (b2 : Bool) (j : b2 ≡ ready (stageOf (e .stage)) (roomOf (free .room))) where
+      pub comes-room : (r : Outcome) (rest : Available) → roomOf (rest .room) ≡ model.recount (λ m. m - 1) (roomOf (free .room)) → b2 ≡ true → r ≡ withSlot (e .cargo) (e .owner) rest
+          → Comes (Found e) left free r
+      comes-room r rest m y x = as-slotted rest (inr (sym h ∙ n, sym j ∙ y, m)) r x
 
       pub comes-pending : b2 ≡ false → Comes (Found e) left free Stays
       comes-pending y = (e, refl, z, sym h ∙ n, sym j ∙ y)
 
-pub comes-found : (view : View) (e : Entry) (left free : ℕ) (r : Outcome) → view ≡ Found e → Comes (Found e) left free r → Comes view left free r
+pub comes-found : (view : View) (e : Entry) (left : ℕ) (free : Available) (r : Outcome) → view ≡ Found e → Comes (Found e) left free r → Comes view left free r
 comes-found view e left free r f m = subst (λ (v : View). Comes v left free r) (sym f) m
 
 -- ---- poll_out
@@ -102,7 +109,7 @@ number-given NoNumber p e = let z : _≡_ {A = ℕ} 0 1 = cc in absurd (omega ar
 number-given (GivenNo n) p e = cc
 
 module _ (q : Queue) (snd : Sound q) (n t : ℕ) (k : ℕ) (g : k ≡ live (handlesOf (q .receivers))) where
-  module _ (e : Entry) (sees : Sees (q .outs) n (Found e)) (z : k ≡ 0 → ⊥) (f : ℕ) (w : Slot e (q .free) f) where
+  module _ (e : Entry) (sees : Sees (q .outs) n (Found e)) (z : k ≡ 0 → ⊥) (f : Available) (w : Slot e (q .free) f) where
     slot-room : length (ring.values (q .values)) < 64
     slot-room = ⊎-elim (λ x. room-granted q snd n t e sees k g z _ refl (q .outs) (x .0)) (λ x. room-ready q snd n t e sees k g z _ refl (x .0) _ refl (x .1)) w
 
@@ -111,13 +118,13 @@ module _ (q : Queue) (snd : Sound q) (n t : ℕ) (k : ℕ) (g : k ≡ live (hand
         let i = kept q snd in
         let p : 0 < live (handlesOf (q .receivers)) = omega arith in
         ⊎-elim (λ x. omega (arith, granted q snd n t e sees k g z _ refl (x .0), i .account .room p, i .sizes .capacity, i .sizes .permits))
-        (λ x. omega (arith, ready-free (e .stage) (q .free) _ refl (x .1), i .account .fits, i .sizes .capacity, i .sizes .permits)) w
+        (λ x. spare-ready q snd n t e sees k g z _ refl (x .0) _ refl (x .1)) w
 
     slot-taken : (o : Side) (r : Turn) → Ends (q .outs) n o → Completes (e .cargo) (e .owner) (withFree f (withOuts o q)) r → Turned q (PollOut n t) (r .answer) (r .queue)
     slot-taken o r x u =
         ⊎-elim
-        (λ y. poll-granted q snd n t e sees k g z _ refl o r (y .0) x (subst (λ (m : ℕ). Completes (e .cargo) (e .owner) (withFree m (withOuts o q)) r) (y .1) u))
-        (λ y. poll-room q snd n t e sees k g z _ refl (y .0) _ refl o r (y .1) x (subst (λ (m : ℕ). Completes (e .cargo) (e .owner) (withFree m (withOuts o q)) r) (y .2) u))
+        (λ y. poll-granted q snd n t e sees k g z _ refl o r (y .0) x (subst (λ (m : Available). Completes (e .cargo) (e .owner) (withFree m (withOuts o q)) r) (y .1) u))
+        (λ y. poll-room q snd n t e sees k g z _ refl (y .0) _ refl o r f (y .2) (y .1) x u)
         w
 
   module _ (view : View) (sees : Sees (q .outs) n view) (plan : Outcome) (m : Comes view k (q .free) plan) where
@@ -133,16 +140,16 @@ module _ (q : Queue) (snd : Sound q) (n t : ℕ) (k : ℕ) (g : k ≡ live (hand
     pub open-gone : (c : Cargo) → plan ≡ Gone c → Open (q .outs) n
     open-gone c e = let y = by (Gone c) e in opened (y .0) (y .1)
 
-    pub open-permit : (s f : ℕ) → plan ≡ Permit s f → Open (q .outs) n
+    pub open-permit : (s : ℕ) (f : Available) → plan ≡ Permit s f → Open (q .outs) n
     open-permit s f e = let y = by (Permit s f) e in opened (y .0) (y .1)
 
-    pub open-push : (v f : ℕ) → plan ≡ Push v f → Open (q .outs) n
+    pub open-push : (v : ℕ) (f : Available) → plan ≡ Push v f → Open (q .outs) n
     open-push v f e = let y = by (Push v f) e in opened (y .0) (y .1)
 
     pub open-stays : plan ≡ Stays → Open (q .outs) n
     open-stays e = let y = by Stays e in opened (y .0) (y .1)
 
-    pub room-push : (v f : ℕ) → plan ≡ Push v f → length (ring.values (q .values)) < 64
+    pub room-push : (v : ℕ) (f : Available) → plan ≡ Push v f → length (ring.values (q .values)) < 64
     room-push v f e = let y = by (Push v f) e in slot-room (y .0) (at (y .0) (y .1)) (y .2) f (y .4)
 
     module _ (what : What) (woken : Woken) (retired : OptToken) (a : Answer) (u : Says what (wokenTokens woken) (tokenList retired) a) (q′ : Queue) where
@@ -162,7 +169,7 @@ module _ (q : Queue) (snd : Sound q) (n t : ℕ) (k : ℕ) (g : k ≡ live (hand
           turned-as q (PollOut n t) a (withOuts (p .side) q) q′ i
           (poll-pending q snd n t (h .0) (at (h .0) (h .1)) k g (h .2) _ refl (h .3) _ refl p a (h .4) d (said-as what Pending woken Nobody retired (p .retired) a x y z u))
 
-      module _ (f : ℕ) (o : Side) (d : Ends (q .outs) n o) where
+      module _ (f : Available) (o : Side) (d : Ends (q .outs) n o) where
         pub polled-permit : (s : ℕ) (p : Given) → plan ≡ Permit s f → Gives (q .permits) s p → q′ ≡ withPermits (p .permits) (withFree f (withOuts o q)) → what ≡ givenBy (p .number)
             → woken ≡ Nobody → retired ≡ NoToken → Turned q (PollOut n t) a q′
         polled-permit s p e l i x y z =
@@ -222,11 +229,11 @@ module _ (q : Queue) (snd : Sound q) (n : ℕ) (view : View) (sees : Sees (q .ou
             (release-gone (withOuts o q) (shaped-ended q n o snd d) Done NoToken m g a z (said-as what Done woken Nobody retired NoToken a v w t u)))
 
         module _ (z : m ≡ 0 → ⊥) (l : Bool) (j : l ≡ isNil (sideOf o .line)) where
-          pub cancelled-freed : l ≡ true → q′ ≡ withFree (q .free + 1) (withOuts o q) → woken ≡ Nobody → Turned q (CancelOut n) a q′
-          cancelled-freed k i w =
-              turned-as q (CancelOut n) a (withFree (q .free + 1) (withOuts o q)) q′ i
-              (releases (record { answer = a; queue = withFree (q .free + 1) (withOuts o q) })
-              (release-free (withOuts o q) (shaped-ended q n o snd d) Done NoToken m g z l j a k (said-as what Done woken Nobody retired NoToken a v w t u)))
+          pub cancelled-freed : (f′ : Available) → roomOf (f′ .room) ≡ model.recount (λ x. x + 1) (roomOf (q .free .room)) → l ≡ true → q′ ≡ withFree f′ (withOuts o q) → woken ≡ Nobody → Turned q (CancelOut n) a q′
+          cancelled-freed f′ p k i w =
+              turned-as q (CancelOut n) a (withFree f′ (withOuts o q)) q′ i
+              (releases (record { answer = a; queue = withFree f′ (withOuts o q) })
+              (release-free (withOuts o q) (shaped-ended q n o snd d) Done NoToken m g z l j f′ p a k (said-as what Done woken Nobody retired NoToken a v w t u)))
 
           pub cancelled-granted : (c : CalledOne) → l ≡ false → CallsOne o c → q′ ≡ withOuts (c .side) q → woken ≡ c .woken → Turned q (CancelOut n) a q′
           cancelled-granted c k r i w =

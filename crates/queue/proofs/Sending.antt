@@ -6,8 +6,8 @@ use mathlib.Core.Bool.{Bool, true, false, not, _&&_}
 use mathlib.Core.List.{List, [], _∷_, _++_}
 use mathlib.Core.Option.{Option, none, some}
 use native.Mathlib.Omega.{arith}
-use borrow.Author.Tests.{eq-eqb, eqb-true}
-use lib.Dec.{eqb, ltb}
+use borrow.Author.Tests.{eqb-true, leb-false, not-true}
+use lib.Dec.{eqb, ltb, leb}
 use lib.ListN.{length, take}
 use Rattle.ring.specs.declared.Ring.{Ring}
 use Rattle.ring.specs.Values as ring
@@ -42,20 +42,21 @@ use Rattle.model.specs.declared.Call.the-variants.{PollOut, CancelOut, PermitSe
 use Rattle.model.specs.Calls.{step, openOut}
 use Rattle.model.proofs.TableLaws.{is-live, lowest-none}
 use Rattle.model.proofs.TableLaws.{of-le}
-use Rattle.model.proofs.Leaves.{openOut-dead, openOut-full, openOut-given, pollOut-dead, pollOut-gone, pollOut-granted, pollOut-room, pollOut-pending}
+use Rattle.model.proofs.Leaves.{openOut-dead, openOut-wrongKind, openOut-full, openOut-given, pollOut-dead, pollOut-gone, pollOut-granted, pollOut-room, pollOut-pending}
 use Rattle.model.proofs.Leaves.{cancelOut-dead, cancelOut-granted, cancelOut-other, permitSend-dead, permitSend-gone, permitSend-sent, permitDrop-dead, permitDrop-live}
 use Rattle.queue.specs.declared.Queue.{Queue}
+use Rattle.queue.specs.declared.available.Available.{Available}
 use Rattle.queue.specs.declared.What.{What}
-use Rattle.queue.specs.declared.What.the-variants.{Done, Given as WGiven, Pending, Disconnected, NoHandle, NoRoom}
+use Rattle.queue.specs.declared.What.the-variants.{Done, Given as WGiven, Pending, Disconnected, NoHandle, NoRoom, WrongKind}
 use Rattle.queue.specs.declared.Answer.{Answer}
 use Rattle.queue.specs.declared.Turn.{Turn}
-use Rattle.queue.specs.Meaning.{queueOf, Shaped, Sound}
+use Rattle.queue.specs.Meaning.{roomOf, queueOf, Shaped, Sound}
 use Rattle.queue.specs.Answers.{codeOf, fieldOf, resultOf}
 use Rattle.queue.specs.Promise.{Turned}
 use Rattle.queue.specs.Steps.{Says, opening, ready}
 use Rattle.queue.proofs.Moves.{Notifies, Pushes, Releases, releasing, Completes}
 use Rattle.queue.proofs.Settled.{kept, stays, moves, does, withValues, withFree, withPermits, withOuts, withIns}
-use Rattle.queue.proofs.Settled.{shaped-values, shaped-free, shaped-permits, shaped-outs, shaped-ins, dead, alive, none-left, some-left}
+use Rattle.queue.proofs.Settled.{shaped-values, shaped-free, shaped-permits, shaped-outs, shaped-ins, dead, alive, none-left, some-left, slot-left, reserved-counted}
 
 -- ---- wakes_of, say, plain
 pub wakes-one : (woken : Woken) (n t : ℕ) → woken ≡ OneOp n t → t ∷ [] ≡ wokenTokens woken
@@ -136,15 +137,17 @@ module _ (q : Queue) (s : Shaped q) where
       to-line : model.release (queueOf q) ≡ model.releaseTo (sideOf (q .outs) .line) (queueOf q)
       to-line = ap (λ (x : Bool). if x then record { wakes = []; next = queueOf q } else model.releaseTo (sideOf (q .outs) .line) (queueOf q)) (some-left (handlesOf (q .receivers)) n f z)
 
-      pub release-free : (a : Answer) → b ≡ true → Says what [] (tokenList t) a → Releases what t q (record { answer = a; queue = withFree (q .free + 1) q })
+      pub release-free : (f′ : Available) → roomOf (f′ .room) ≡ model.recount (λ m. m + 1) (roomOf (q .free .room)) → (a : Answer) → b ≡ true → Says what [] (tokenList t) a
+          → Releases what t q (record { answer = a; queue = withFree f′ q })
       unfolding freed
-      release-free a y u =
+      release-free f′ m a y u =
           record {
             does = record {
-              shaped = shaped-free q s (q .free + 1);
+              shaped = shaped-free q s f′;
               is =
-                  beside what [] (tokenList t) a (withFree (q .free + 1) q) u
-                  ∙ sym (ap freed (to-line ∙ ap (λ (l : List ℕ). model.releaseTo l (queueOf q)) (nil-line (sideOf (q .outs) .line) b g y)));
+                  beside what [] (tokenList t) a (withFree f′ q) u
+                  ∙ (ap (λ (x : model.Room). model.reply (codeOf what) (fieldOf what) [] (tokenList t) (model.setFree x (queueOf q))) m
+                  ∙ sym (ap freed (to-line ∙ ap (λ (l : List ℕ). model.releaseTo l (queueOf q)) (nil-line (sideOf (q .outs) .line) b g y))));
             };
           }
 
@@ -228,12 +231,16 @@ module _ (j : model.Job) (s : ℕ) (q after : model.Queue) (same : after .permit
           ap (λ (o : Option ℕ). ltb (model.giveOf o q (λ k. model.reply model.GIVEN (k ∷ []) [] [] (model.setPermits (put (q .permits) k s) after)) .ans .code) 20) (n .1)
       by (model.carrying v) = refl
 
--- the ring has room where a slot is free
-pub room-free : (q : Queue) → Sound q → (n : ℕ) → n ≡ live (handlesOf (q .receivers)) → (n ≡ 0 → ⊥) → (q .free ≡ 0 → ⊥) → length (ring.values (q .values)) < 64
-room-free q snd n f z g =
-    let i = kept q snd in
-    let p : 0 < live (handlesOf (q .receivers)) = omega arith in
-    omega (arith, i .account .room p, i .sizes .capacity)
+-- the ring has room where a slot is free; on an unbounded queue that is a test of its own
+pub room-free : (q : Queue) → Sound q → (live (handlesOf (q .receivers)) ≡ 0 → ⊥) → model.noFree (queueOf q) ≡ false → model.ringFull (queueOf q) ≡ false → length (ring.values (q .values)) < 64
+room-free q snd z g h = by (model.isUnbounded (queueOf q)) refl
+  where
+    by : (u : Bool) → model.isUnbounded (queueOf q) ≡ u → length (ring.values (q .values)) < 64
+    by true e = leb-false 64 (length (ring.values (q .values))) (sym (ap (λ (x : Bool). x && leb 64 (length (ring.values (q .values)))) e) ∙ h)
+    by false e =
+        let i = kept q snd in
+        let p : 0 < live (handlesOf (q .receivers)) = omega arith in
+        omega (arith, slot-left q snd e g, i .account .room p, i .sizes .capacity)
 
 -- ---- open_out
 opening-is : (c : Cargo) (s : ℕ) (q : model.Queue) → step (opening c s) q ≡ openOut (carried c) s q
@@ -245,43 +252,45 @@ module _ (q : Queue) (snd : Sound q) (s : ℕ) (c : Cargo) (b : Bool) (e : b ≡
   pub out-dead : (a : Answer) → not b ≡ true → Says NoHandle [] [] a → Turned q (opening c s) a q
   out-dead a d u = stays q (opening c s) NoHandle a snd u (sym (opening-is c s (queueOf q) ∙ openOut-dead (carried c) s (queueOf q) (dead _ b e d)))
 
-  module _ (d : not b ≡ false) (o : Opened) (k : Opens (q .outs) s c o) where
+  pub out-wrong : (a : Answer) → not b ≡ false → model.isUnbounded (queueOf q) ≡ true → Says WrongKind [] [] a → Turned q (opening c s) a q
+  out-wrong a d w u =
+      let l = alive _ b e d in
+      stays q (opening c s) WrongKind a snd u (sym (opening-is c s (queueOf q) ∙ openOut-wrongKind (carried c) s (queueOf q) (l .0) (l .1) w))
+
+  module _ (d : not b ≡ false) (w : model.isUnbounded (queueOf q) ≡ false) (o : Opened) (k : Opens (q .outs) s c o) where
     pub out-full : (a : Answer) → o .number ≡ NoNumber → Says NoRoom [] [] a → Turned q (opening c s) a q
     out-full a f u =
         let l = alive _ b e d in
-        stays q (opening c s) NoRoom a snd u (sym (opening-is c s (queueOf q) ∙ openOut-full (carried c) s (queueOf q) (l .0) (l .1) (sym (k .number) ∙ ap numbered f)))
+        stays q (opening c s) NoRoom a snd u (sym (opening-is c s (queueOf q) ∙ openOut-full (carried c) s (queueOf q) (l .0) (l .1) w (sym (k .number) ∙ ap numbered f)))
 
     pub out-given : (n : ℕ) (a : Answer) → o .number ≡ GivenNo n → Says (WGiven n) [] [] a → Turned q (opening c s) a (withOuts (o .side) q)
     out-given n a f u =
         let l = alive _ b e d in
         moves q (opening c s) (WGiven n) [] [] a (withOuts (o .side) q) snd (shaped-outs q (snd .shaped) (o .side) (k .sound)) u refl
         (ap (λ (x : side.Side model.Job). model.reply model.GIVEN (n ∷ []) [] [] (model.setOuts x (queueOf q))) (k .side ∙ ap (λ (z : Number). openedIf (numbered z) s (carried c) (sideOf (q .outs))) f)
-        ∙ sym (opening-is c s (queueOf q) ∙ openOut-given (carried c) s (queueOf q) (l .0) n (l .1) (sym (k .number) ∙ ap numbered f)))
+        ∙ sym (opening-is c s (queueOf q) ∙ openOut-given (carried c) s (queueOf q) (l .0) n (l .1) w (sym (k .number) ∙ ap numbered f)))
 
 -- ---- is_ready
-module _ (st : Stage) (f : ℕ) where
+module _ (st : Stage) (f : model.Room) (b : Bool) (h : b ≡ model.noneOf f) where
   pub ready-waiting : (t : ℕ) → st ≡ SWaiting t → false ≡ ready (stageOf st) f
   ready-waiting t e = sym (ap (λ (z : Stage). ready (stageOf z) f) e)
 
-  pub ready-idle : st ≡ SIdle → not (eqb f 0) ≡ ready (stageOf st) f
-  ready-idle e = sym (ap (λ (z : Stage). ready (stageOf z) f) e)
+  pub ready-idle : st ≡ SIdle → not b ≡ ready (stageOf st) f
+  ready-idle e = ap not h ∙ sym (ap (λ (z : Stage). ready (stageOf z) f) e)
 
-  pub ready-called : st ≡ SCalled → not (eqb f 0) ≡ ready (stageOf st) f
-  ready-called e = sym (ap (λ (z : Stage). ready (stageOf z) f) e)
+  pub ready-called : st ≡ SCalled → not b ≡ ready (stageOf st) f
+  ready-called e = ap not h ∙ sym (ap (λ (z : Stage). ready (stageOf z) f) e)
 
-  pub ready-void : st ≡ SVoid → not (eqb f 0) ≡ ready (stageOf st) f
-  ready-void e = sym (ap (λ (z : Stage). ready (stageOf z) f) e)
+  pub ready-void : st ≡ SVoid → not b ≡ ready (stageOf st) f
+  ready-void e = ap not h ∙ sym (ap (λ (z : Stage). ready (stageOf z) f) e)
 
 -- a stage that is ready finds free room
 and-right : (a b : Bool) → (a && b) ≡ true → b ≡ true
 and-right true b e = e
 and-right false b e = let z : _≡_ {A = ℕ} 0 1 = cc in absurd (omega arith)
 
-free-not : (f : ℕ) → not (eqb f 0) ≡ true → f ≡ 0 → ⊥
-free-not f e z = let q : not (eqb f 0) ≡ false = ap not (eq-eqb f 0 z) in let y : _≡_ {A = ℕ} 0 1 = cc in omega arith
-
-pub ready-free : (st : Stage) (f : ℕ) (b : Bool) → b ≡ ready (stageOf st) f → b ≡ true → 1 ≤ f
-ready-free st f b e t = let h = free-not f (and-right (eqb (side.waits (stageOf st)) 0) (not (eqb f 0)) (sym e ∙ t)) in omega arith
+pub ready-free : (st : Stage) (f : model.Room) (b : Bool) → b ≡ ready (stageOf st) f → b ≡ true → model.noneOf f ≡ false
+ready-free st f b e t = not-true (model.noneOf f) (and-right (eqb (side.waits (stageOf st)) 0) (not (model.noneOf f)) (sym e ∙ t))
 
 -- ---- poll_out
 pub poll-dead : (q : Queue) (n t : ℕ) (view : View) (a : Answer) → Sound q → Sees (q .outs) n view → view ≡ Missing → Says NoHandle [] [] a → Turned q (PollOut n t) a q
@@ -334,21 +343,27 @@ module _ (q : Queue) (snd : Sound q) (n t : ℕ) (e : Entry) (sees : Sees (q .ou
         ∙ (ap (λ (y : model.Queue). model.complete (carried (e .cargo)) (e .owner) (queueOf q) y) (rest-is o x)
         ∙ sym (pollOut-granted n t (queueOf q) (deedOf e) found some-receiver (sym h ∙ y))))
 
-    module _ (c : b ≡ false) (b2 : Bool) (j : b2 ≡ ready (stageOf (e .stage)) (q .free)) where
+    module _ (c : b ≡ false) (b2 : Bool) (j : b2 ≡ ready (stageOf (e .stage)) (roomOf (q .free .room))) where
+      -- an open operation, so slots are counted, and one is free
+      ready-left : b2 ≡ true → 1 ≤ kept q snd .account .left
+      ready-left d = slot-left q snd (reserved-counted q snd n (deedOf e) found) (ready-free (e .stage) (roomOf (q .free .room)) b2 j d)
+
       pub room-ready : b2 ≡ true → length (ring.values (q .values)) < 64
       room-ready d =
           let i = kept q snd in
           let p : 0 < live (handlesOf (q .receivers)) = omega arith in
-          omega (arith, ready-free (e .stage) (q .free) b2 j d, i .account .room p, i .sizes .capacity)
+          omega (arith, ready-left d, i .account .room p, i .sizes .capacity)
 
-      pub poll-room : (o : Side) (r : Turn) → b2 ≡ true → Ends (q .outs) n o → Completes (e .cargo) (e .owner) (withFree (q .free - 1) (withOuts o q)) r → Turned q (PollOut n t) (r .answer) (r .queue)
+      pub spare-ready : b2 ≡ true → live (permitsOf (q .permits)) < size (permitsOf (q .permits))
+      spare-ready d = let i = kept q snd in omega (arith, ready-left d, i .account .fits, i .sizes .capacity, i .sizes .permits)
+
+      pub poll-room : (o : Side) (r : Turn) (f : Available) → roomOf (f .room) ≡ model.recount (λ m. m - 1) (roomOf (q .free .room)) → b2 ≡ true → Ends (q .outs) n o
+          → Completes (e .cargo) (e .owner) (withFree f (withOuts o q)) r → Turned q (PollOut n t) (r .answer) (r .queue)
       unfolding step
-      poll-room o r d x u =
-          let i = kept q snd in
-          let w : live (permitsOf (q .permits)) < size (permitsOf (q .permits)) = omega (arith, ready-free (e .stage) (q .free) b2 j d, i .account .fits, i .sizes .capacity, i .sizes .permits) in
-          does q (PollOut n t) _ r snd (u .does) (complete-good (carried (e .cargo)) (e .owner) (queueOf q) (queueOf (withFree (q .free - 1) (withOuts o q))) refl w)
-          (complete-either (carried (e .cargo)) (e .owner) (queueOf q) (queueOf (withFree (q .free - 1) (withOuts o q))) refl w
-          ∙ (ap (λ (y : model.Queue). model.complete (carried (e .cargo)) (e .owner) (queueOf q) (model.setFree (q .free - 1) y)) (rest-is o x)
+      poll-room o r f m d x u =
+          does q (PollOut n t) _ r snd (u .does) (complete-good (carried (e .cargo)) (e .owner) (queueOf q) (queueOf (withFree f (withOuts o q))) refl (spare-ready d))
+          (complete-either (carried (e .cargo)) (e .owner) (queueOf q) (queueOf (withFree f (withOuts o q))) refl (spare-ready d)
+          ∙ (ap₂ (λ (z : model.Room) (y : model.Queue). model.complete (carried (e .cargo)) (e .owner) (queueOf q) (model.setFree z y)) m (rest-is o x)
           ∙ sym (pollOut-room n t (queueOf q) (deedOf e) found some-receiver (sym h ∙ c) (sym j ∙ d))))
 
       pub poll-pending : (p : Pended) (a : Answer) → b2 ≡ false → Pends (q .outs) n t p → Says Pending [] (tokenList (p .retired)) a → Turned q (PollOut n t) a (withOuts (p .side) q)
@@ -362,7 +377,7 @@ module _ (q : Queue) (snd : Sound q) (n t : ℕ) (e : Entry) (sees : Sees (q .ou
 pub shaped-ended : (q : Queue) (n : ℕ) (o : Side) → Sound q → Ends (q .outs) n o → Shaped (withOuts o q)
 shaped-ended q n o snd x = shaped-outs q (snd .shaped) o (x .sound)
 
-pub shaped-taken : (q : Queue) (n : ℕ) (o : Side) (f : ℕ) → Sound q → Ends (q .outs) n o → Shaped (withFree f (withOuts o q))
+pub shaped-taken : (q : Queue) (n : ℕ) (o : Side) (f : Available) → Sound q → Ends (q .outs) n o → Shaped (withFree f (withOuts o q))
 shaped-taken q n o f snd x = shaped-free (withOuts o q) (shaped-outs q (snd .shaped) o (x .sound)) f
 
 -- ---- cancel_out

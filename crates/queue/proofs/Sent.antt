@@ -1,12 +1,13 @@
 -- The exits of try_send, try_res, permit_send and permit_drop, where the arms of a call meet: the queue and the answer's parts are variables
 -- there, which each arm ties to its own by an equation. Assumes nothing.
-use Prim.Native.Nat.{ℕ, _+_, _-_, _<_, _≤_}
+use Prim.Native.Nat.{ℕ, _+_, _-_, _<_}
 use mathlib.Core.Path.{_≡_, refl, sym, ap, ap₂, _∙_, subst}
-use mathlib.Core.Bool.{Bool, true, false, not}
+use mathlib.Core.Bool.{Bool, true, false, not, _&&_}
 use mathlib.Core.List.{[], _∷_, _++_}
 use mathlib.Core.Option.{Option, none, some}
 use native.Mathlib.Omega.{arith}
-use borrow.Author.Tests.{eq-eqb, ne-eqb, eqb-false}
+use borrow.Author.Tests.{eqb-false}
+use lib.Dec.{leb}
 use lib.ListN.{length}
 use mir.Val.{Fits}
 use mir.Syntax.{w8}
@@ -32,112 +33,189 @@ use Rattle.model.specs.Queue as model
 use Rattle.model.specs.declared.Call.the-variants.{TrySend, TryRes, PermitSend, PermitDrop}
 use Rattle.model.specs.Calls.{step, trySend, tryRes}
 use Rattle.queue.specs.declared.Queue.{Queue}
+use Rattle.queue.specs.declared.available.Available.{Available}
 use Rattle.queue.specs.declared.What.{What}
-use Rattle.queue.specs.declared.What.the-variants.{Done, Given as WGiven, Full, Disconnected, NoHandle}
+use Rattle.queue.specs.declared.What.the-variants.{Done, Given as WGiven, Full, Disconnected, NoHandle, RingFull, WrongKind}
 use Rattle.queue.specs.declared.Answer.{Answer}
 use Rattle.queue.specs.declared.Turn.{Turn}
-use Rattle.queue.specs.Meaning.{queueOf, Shaped, Sound}
+use Rattle.queue.specs.Meaning.{roomOf, queueOf, Shaped, Sound}
 use Rattle.queue.specs.Answers.{codeOf, fieldOf}
 use Rattle.queue.specs.Promise.{Turned}
-use Rattle.queue.specs.Steps.{Says, isDone, tried, sends, givenBy}
+use Rattle.queue.specs.Steps.{Says, isDone, tried, sends, reserves, givenBy}
 use Rattle.queue.proofs.Moves.{Pushes}
 use Rattle.queue.proofs.Settled.{kept, stays, does, turned-as, said-as, withValues, withFree, withPermits, withOuts, withIns}
-use Rattle.queue.proofs.Settled.{shaped-free, owner-fits, none-left, some-left}
+use Rattle.queue.proofs.Settled.{shaped-free, owner-fits, none-left, some-left, slot-left}
 use Rattle.queue.proofs.Sending.{notify-nobody, notify-one, pushed, shaped-pushed, release-gone, release-free, release-grant, room-free}
 use Rattle.queue.proofs.Sending.{complete-given, spare, complete-either, complete-good}
 use Rattle.queue.proofs.Sending.{permit-dead, permit-gone, permit-sent, room-permit, shaped-closed, drop-dead, drop-done}
 
--- ---- sendable: by its three tests
+-- ---- sendable: by its tests
 module _ (q : Queue) (shaped : Shaped q) (c : Cargo) (s : ℕ) (b : Bool) (e : b ≡ isLive (lookup (handlesOf (q .senders)) s)) where
   pub sends-dead : b ≡ false → NoHandle ≡ sends c s (queueOf q)
   unfolding sends
-  sends-dead d = sym (ap (λ (l : Bool). tried c l (model.noReceiver (queueOf q)) (model.noFree (queueOf q))) (sym e ∙ d))
+  sends-dead d = sym (ap (λ (l : Bool). tried c l (model.noReceiver (queueOf q)) (model.noFree (queueOf q)) (model.ringFull (queueOf q))) (sym e ∙ d))
 
   module _ (d : b ≡ true) (n : ℕ) (f : n ≡ live (handlesOf (q .receivers))) where
     pub sends-gone : n ≡ 0 → Disconnected c ≡ sends c s (queueOf q)
     unfolding sends
-    sends-gone z = sym (ap₂ (λ (l g : Bool). tried c l g (model.noFree (queueOf q))) (sym e ∙ d) (none-left (handlesOf (q .receivers)) n f z))
+    sends-gone z = sym (ap₂ (λ (l g : Bool). tried c l g (model.noFree (queueOf q)) (model.ringFull (queueOf q))) (sym e ∙ d) (none-left (handlesOf (q .receivers)) n f z))
 
-    module _ (z : n ≡ 0 → ⊥) where
-      with-receiver : sends c s (queueOf q) ≡ tried c true false (model.noFree (queueOf q))
+    module _ (z : n ≡ 0 → ⊥) (g : Bool) (h : g ≡ model.noFree (queueOf q)) where
+      with-receiver : (x : Bool) → g ≡ x → sends c s (queueOf q) ≡ tried c true false x (model.ringFull (queueOf q))
       unfolding sends
-      with-receiver = ap₂ (λ (l g : Bool). tried c l g (model.noFree (queueOf q))) (sym e ∙ d) (some-left (handlesOf (q .receivers)) n f z)
+      with-receiver x k =
+          ap₂ (λ (l r : Bool). tried c l r (model.noFree (queueOf q)) (model.ringFull (queueOf q))) (sym e ∙ d) (some-left (handlesOf (q .receivers)) n f z)
+          ∙ ap (λ (y : Bool). tried c true false y (model.ringFull (queueOf q))) (sym h ∙ k)
 
-      pub sends-full : q .free ≡ 0 → Full c ≡ sends c s (queueOf q)
-      sends-full g = sym (with-receiver ∙ ap (λ (x : Bool). tried c true false x) (eq-eqb (q .free) 0 g))
+      pub sends-full : g ≡ true → Full c ≡ sends c s (queueOf q)
+      sends-full k = sym (with-receiver true k)
 
-      pub sends-done : (q .free ≡ 0 → ⊥) → Done ≡ sends c s (queueOf q)
-      sends-done g = sym (with-receiver ∙ ap (λ (x : Bool). tried c true false x) (ne-eqb (q .free) 0 g))
+      module _ (k : g ≡ false) (r : Bool) (i : r ≡ model.ringFull (queueOf q)) where
+        pub sends-ringFull : r ≡ true → RingFull ≡ sends c s (queueOf q)
+        sends-ringFull j = sym (with-receiver false k ∙ ap (λ (y : Bool). tried c true false false y) (sym i ∙ j))
+
+        pub sends-done : r ≡ false → Done ≡ sends c s (queueOf q)
+        sends-done j = sym (with-receiver false k ∙ ap (λ (y : Bool). tried c true false false y) (sym i ∙ j))
+
+-- ---- ring_is_full
+module _ (q : Queue) (b : Bool) (e : b ≡ model.isUnbounded (queueOf q)) where
+  pub counted-never : b ≡ false → false ≡ model.ringFull (queueOf q)
+  counted-never d = sym (ap (λ (x : Bool). x && leb 64 (length (ring.values (q .values)))) (sym e ∙ d))
+
+  pub by-length : (n : ℕ) → b ≡ true → n ≡ length (ring.values (q .values)) → leb 64 n ≡ model.ringFull (queueOf q)
+  by-length n d f = ap (λ (x : ℕ). leb 64 x) f ∙ sym (ap (λ (x : Bool). x && leb 64 (length (ring.values (q .values)))) (sym e ∙ d))
+
+-- ---- reservable
+module _ (q : Queue) (s : ℕ) (b : Bool) (e : b ≡ isLive (lookup (handlesOf (q .senders)) s)) where
+  pub reserves-dead : (what : What) → b ≡ false → what ≡ sends Nothing s (queueOf q) → what ≡ reserves s (queueOf q)
+  unfolding reserves
+  reserves-dead what d f = f ∙ sym (ap (λ (x : Bool). if x && model.isUnbounded (queueOf q) then WrongKind else sends Nothing s (queueOf q)) (sym e ∙ d))
+
+  module _ (d : b ≡ true) (u : Bool) (h : u ≡ model.isUnbounded (queueOf q)) where
+    by-kind : (x : Bool) → u ≡ x → reserves s (queueOf q) ≡ (if x then WrongKind else sends Nothing s (queueOf q))
+    unfolding reserves
+    by-kind x k = ap₂ (λ (l r : Bool). if l && r then WrongKind else sends Nothing s (queueOf q)) (sym e ∙ d) (sym h ∙ k)
+
+    pub reserves-wrong : u ≡ true → WrongKind ≡ reserves s (queueOf q)
+    reserves-wrong k = sym (by-kind true k)
+
+    pub reserves-counted : (what : What) → u ≡ false → what ≡ sends Nothing s (queueOf q) → what ≡ reserves s (queueOf q)
+    reserves-counted what k f = f ∙ sym (by-kind false k)
 
 -- ---- what the definition answers by the same tests, where `go` is what follows if none of them stops the call
-module _ (c : Cargo) (q : model.Queue) (go : model.Result) where
-  abbrev answered : Option model.Mark → Bool → Bool → model.Result
-  answered o gone full =
+module _ (q : model.Queue) (go : model.Result) where
+  -- to a try-send
+  abbrev send-answered : Cargo → Option model.Mark → Bool → Bool → Bool → model.Result
+  send-answered c o gone full ring =
       model.needOf o q
       (λ _. if gone then model.reply model.DISCONNECTED (model.cargo (carried c)) [] [] q else
-      if full then model.reply model.FULL (model.cargo (carried c)) [] [] q else go)
+      if full then model.reply model.FULL (model.cargo (carried c)) [] [] q else if ring then model.refuse model.RING-FULL q else go)
 
-  stopped : (o : Option model.Mark) (gone full : Bool) → isDone (tried c (isLive o) gone full) ≡ false
-      → model.reply (codeOf (tried c (isLive o) gone full)) (fieldOf (tried c (isLive o) gone full)) [] [] q ≡ answered o gone full
-  stopped none gone full h = refl
-  stopped (some a) true full h = refl
-  stopped (some a) false true h = refl
-  stopped (some a) false false h = let z : _≡_ {A = ℕ} 0 1 = cc in absurd (omega arith)
+  -- to a try-res, of this kind of queue
+  abbrev res-answered : Option model.Mark → Bool → Bool → Bool → model.Result
+  res-answered o unbounded gone full =
+      model.needOf o q
+      (λ _. if unbounded then model.refuse model.WRONG-KIND q else
+      if gone then model.reply model.DISCONNECTED [] [] [] q else if full then model.reply model.FULL [] [] [] q else go)
 
-  passed : (o : Option model.Mark) (gone full : Bool) → isDone (tried c (isLive o) gone full) ≡ true → go ≡ answered o gone full
-  passed none gone full h = let z : _≡_ {A = ℕ} 0 1 = cc in absurd (omega arith)
-  passed (some a) true full h = let z : _≡_ {A = ℕ} 0 1 = cc in absurd (omega arith)
-  passed (some a) false true h = let z : _≡_ {A = ℕ} 0 1 = cc in absurd (omega arith)
-  passed (some a) false false h = refl
+  abbrev reserved : Option model.Mark → Bool → Bool → Bool → Bool → What
+  reserved o unbounded gone full many = if isLive o && unbounded then WrongKind else tried Nothing (isLive o) gone full (unbounded && many)
+
+  -- what is answered, and what was found if nothing stopped the call
+  send-by : (c : Cargo) (o : Option model.Mark) (gone full ring : Bool) (x : Bool) → isDone (tried c (isLive o) gone full ring) ≡ x
+      → (if x then go else model.reply (codeOf (tried c (isLive o) gone full ring)) (fieldOf (tried c (isLive o) gone full ring)) [] [] q) ≡ send-answered c o gone full ring
+  send-by c none gone full ring x h = sym (ap (λ (y : Bool). if y then go else model.refuse model.NO-HANDLE q) h)
+  send-by c (some a) true full ring x h = sym (ap (λ (y : Bool). if y then go else model.reply model.DISCONNECTED (model.cargo (carried c)) [] [] q) h)
+  send-by c (some a) false true ring x h = sym (ap (λ (y : Bool). if y then go else model.reply model.FULL (model.cargo (carried c)) [] [] q) h)
+  send-by c (some a) false false true x h = sym (ap (λ (y : Bool). if y then go else model.refuse model.RING-FULL q) h)
+  send-by c (some a) false false false x h = sym (ap (λ (y : Bool). if y then go else model.reply model.DONE [] [] [] q) h)
+
+  res-by : (o : Option model.Mark) (unbounded gone full many : Bool) (x : Bool) → isDone (reserved o unbounded gone full many) ≡ x
+      → (if x then go else model.reply (codeOf (reserved o unbounded gone full many)) (fieldOf (reserved o unbounded gone full many)) [] [] q) ≡ res-answered o unbounded gone full
+  res-by none unbounded gone full many x h = sym (ap (λ (y : Bool). if y then go else model.refuse model.NO-HANDLE q) h)
+  res-by (some a) true gone full many x h = sym (ap (λ (y : Bool). if y then go else model.refuse model.WRONG-KIND q) h)
+  res-by (some a) false true full many x h = sym (ap (λ (y : Bool). if y then go else model.reply model.DISCONNECTED [] [] [] q) h)
+  res-by (some a) false false true many x h = sym (ap (λ (y : Bool). if y then go else model.reply model.FULL [] [] [] q) h)
+  res-by (some a) false false false many x h = sym (ap (λ (y : Bool). if y then go else model.reply model.DONE [] [] [] q) h)
 
 module _ (s : ℕ) (q : model.Queue) where
-  send-stopped : (v : ℕ) → isDone (sends (CValue v) s q) ≡ false → model.reply (codeOf (sends (CValue v) s q)) (fieldOf (sends (CValue v) s q)) [] [] q ≡ step (TrySend s v) q
+  -- a try-send goes through, or is answered what is told
+  sent-by : (v : ℕ) (x : Bool) → isDone (sends (CValue v) s q) ≡ x
+      → (if x then model.doneBy (model.push v (model.acquire q)) else model.reply (codeOf (sends (CValue v) s q)) (fieldOf (sends (CValue v) s q)) [] [] q) ≡ step (TrySend s v) q
   unfolding step trySend sends
-  send-stopped v h = stopped (CValue v) q (model.doneBy (model.push v (model.acquire q))) (lookup (q .senders) s) (model.noReceiver q) (model.noFree q) h
+  sent-by v x h = send-by q (model.doneBy (model.push v (model.acquire q))) (CValue v) (lookup (q .senders) s) (model.noReceiver q) (model.noFree q) (model.ringFull q) x h
 
-  send-passed : (v : ℕ) → isDone (sends (CValue v) s q) ≡ true → model.doneBy (model.push v (model.acquire q)) ≡ step (TrySend s v) q
-  unfolding step trySend sends
-  send-passed v h = passed (CValue v) q (model.doneBy (model.push v (model.acquire q))) (lookup (q .senders) s) (model.noReceiver q) (model.noFree q) h
+  reserved-by : (x : Bool) → isDone (reserves s q) ≡ x
+      → (if x then model.givePermit s q (model.acquire q) else model.reply (codeOf (reserves s q)) (fieldOf (reserves s q)) [] [] q) ≡ step (TryRes s) q
+  unfolding step tryRes reserves sends
+  reserved-by x h = res-by q (model.givePermit s q (model.acquire q)) (lookup (q .senders) s) (model.isUnbounded q) (model.noReceiver q) (model.noFree q) (leb 64 (length (q .values))) x h
 
-  res-stopped : isDone (sends Nothing s q) ≡ false → model.reply (codeOf (sends Nothing s q)) (fieldOf (sends Nothing s q)) [] [] q ≡ step (TryRes s) q
-  unfolding step tryRes sends
-  res-stopped h = stopped Nothing q (model.givePermit s q (model.acquire q)) (lookup (q .senders) s) (model.noReceiver q) (model.noFree q) h
+-- ---- Done: the sender is live, a receiver is left, a slot is free, and the ring has room; to reserve, slots are counted
+pub record Passed (s : ℕ) (q : model.Queue) : Type 0 where
+  pub known : isLive (lookup (q .senders) s) ≡ true
+  pub left : model.noReceiver q ≡ false
+  pub free : model.noFree q ≡ false
 
-  res-passed : isDone (sends Nothing s q) ≡ true → model.givePermit s q (model.acquire q) ≡ step (TryRes s) q
-  unfolding step tryRes sends
-  res-passed h = passed Nothing q (model.givePermit s q (model.acquire q)) (lookup (q .senders) s) (model.noReceiver q) (model.noFree q) h
+all-passed : (c : Cargo) (alive gone full ring : Bool) → isDone (tried c alive gone full ring) ≡ true → (alive ≡ true) × (gone ≡ false) × (full ≡ false) × (ring ≡ false) × (tried c alive gone full ring ≡ Done)
+all-passed c false gone full ring h = let z : _≡_ {A = ℕ} 0 1 = cc in absurd (omega arith)
+all-passed c true true full ring h = let z : _≡_ {A = ℕ} 0 1 = cc in absurd (omega arith)
+all-passed c true false true ring h = let z : _≡_ {A = ℕ} 0 1 = cc in absurd (omega arith)
+all-passed c true false false true h = let z : _≡_ {A = ℕ} 0 1 = cc in absurd (omega arith)
+all-passed c true false false false h = (refl, refl, refl, refl, refl)
 
--- ---- Done: the sender is live, a receiver is left, and a slot is free
-all-passed : (c : Cargo) (alive gone full : Bool) → isDone (tried c alive gone full) ≡ true → (alive ≡ true) × (gone ≡ false) × (full ≡ false) × (tried c alive gone full ≡ Done)
-all-passed c false gone full h = let z : _≡_ {A = ℕ} 0 1 = cc in absurd (omega arith)
-all-passed c true true full h = let z : _≡_ {A = ℕ} 0 1 = cc in absurd (omega arith)
-all-passed c true false true h = let z : _≡_ {A = ℕ} 0 1 = cc in absurd (omega arith)
-all-passed c true false false h = (refl, refl, refl, refl)
-
-tests-passed : (c : Cargo) (s : ℕ) (q : model.Queue) → isDone (sends c s q) ≡ true
-    → (isLive (lookup (q .senders) s) ≡ true) × (model.noReceiver q ≡ false) × (model.noFree q ≡ false) × (sends c s q ≡ Done)
+send-passed : (c : Cargo) (s : ℕ) (q : model.Queue) → isDone (sends c s q) ≡ true → (Passed s q) × (model.ringFull q ≡ false) × (sends c s q ≡ Done)
 unfolding sends
-tests-passed c s q h = all-passed c (isLive (lookup (q .senders) s)) (model.noReceiver q) (model.noFree q) h
+send-passed c s q h =
+    let p = all-passed c (isLive (lookup (q .senders) s)) (model.noReceiver q) (model.noFree q) (model.ringFull q) h in
+    (record { known = p .0; left = p .1; free = p .2 }, p .3, p .4)
 
-module _ (q : Queue) (snd : Sound q) (c : Cargo) (s : ℕ) (what : What) (e : what ≡ sends c s (queueOf q)) (b : Bool) (f : b ≡ isDone what) where
-  is-decided : (x : Bool) → b ≡ x → isDone (sends c s (queueOf q)) ≡ x
+res-passed : (s : ℕ) (q : model.Queue) → isDone (reserves s q) ≡ true → (Passed s q) × (model.isUnbounded q ≡ false) × (reserves s q ≡ Done)
+unfolding reserves sends
+res-passed s q h = by (isLive (lookup (q .senders) s)) refl (model.isUnbounded q) refl
+  where
+    at : (l u : Bool) → isLive (lookup (q .senders) s) ≡ l → model.isUnbounded q ≡ u → reserves s q ≡ (if l && u then WrongKind else tried Nothing l (model.noReceiver q) (model.noFree q) (u && leb 64 (length (q .values))))
+    at l u e f =
+        ap₂ (λ (x y : Bool). if x && y then WrongKind else tried Nothing x (model.noReceiver q) (model.noFree q) (y && leb 64 (length (q .values)))) e f
+
+    by : (l : Bool) → isLive (lookup (q .senders) s) ≡ l → (u : Bool) → model.isUnbounded q ≡ u → (Passed s q) × (model.isUnbounded q ≡ false) × (reserves s q ≡ Done)
+    by false e u f = let z : isDone (reserves s q) ≡ false = ap isDone (at false u e f) in let y : _≡_ {A = ℕ} 0 1 = cc in absurd (omega arith)
+    by true e true f = let z : isDone (reserves s q) ≡ false = ap isDone (at true true e f) in let y : _≡_ {A = ℕ} 0 1 = cc in absurd (omega arith)
+    by true e false f =
+        let p = all-passed Nothing true (model.noReceiver q) (model.noFree q) false (sym (ap isDone (at true false e f)) ∙ h) in
+        (record { known = e; left = p .1; free = p .2 }, f, at true false e f ∙ p .4)
+
+-- ---- what is told, and whether it is Done
+module _ (told what : What) (e : what ≡ told) (b : Bool) (f : b ≡ isDone what) where
+  is-decided : (x : Bool) → b ≡ x → isDone told ≡ x
   is-decided x d = sym (ap isDone e) ∙ (sym f ∙ d)
 
-  module _ (d : b ≡ true) where
-    is-done : what ≡ Done
-    is-done = e ∙ tests-passed c s (queueOf q) (is-decided true d) .3
+-- ---- what a try-send finds that goes through
+module _ (q : Queue) (snd : Sound q) (c : Cargo) (s : ℕ) (what : What) (e : what ≡ sends c s (queueOf q)) (b : Bool) (f : b ≡ isDone what) (d : b ≡ true) where
+  send-found : (Passed s (queueOf q)) × (model.ringFull (queueOf q) ≡ false) × (sends c s (queueOf q) ≡ Done)
+  send-found = send-passed c s (queueOf q) (is-decided (sends c s (queueOf q)) what e b f true d)
 
-    pub free-sent : 1 ≤ q .free
-    free-sent = let h : q .free ≡ 0 → ⊥ = eqb-false (q .free) 0 (tests-passed c s (queueOf q) (is-decided true d) .2) in omega arith
+  is-done : what ≡ Done
+  is-done = e ∙ send-found .2
 
-    -- the ring has room, since a slot is free
-    pub room-sent : length (ring.values (q .values)) < 64
-    room-sent =
-        let t = tests-passed c s (queueOf q) (is-decided true d) in
-        room-free q snd (live (handlesOf (q .receivers))) refl (eqb-false (live (handlesOf (q .receivers))) 0 (t .1)) (eqb-false (q .free) 0 (t .2))
+  pub free-sent : model.noneOf (roomOf (q .free .room)) ≡ false
+  free-sent = send-found .0 .free
 
-    pub owner-sent : Fits w8 s
-    owner-sent = owner-fits (q .senders) s (isLive (lookup (handlesOf (q .senders)) s)) (snd .shaped .senders) refl (tests-passed c s (queueOf q) (is-decided true d) .0)
+  pub room-sent : length (ring.values (q .values)) < 64
+  room-sent = room-free q snd (eqb-false (live (handlesOf (q .receivers))) 0 (send-found .0 .left)) (send-found .0 .free) (send-found .1)
+
+-- ---- and a try-res
+module _ (q : Queue) (snd : Sound q) (s : ℕ) (what : What) (e : what ≡ reserves s (queueOf q)) (b : Bool) (f : b ≡ isDone what) (d : b ≡ true) where
+  res-found : (Passed s (queueOf q)) × (model.isUnbounded (queueOf q) ≡ false) × (reserves s (queueOf q) ≡ Done)
+  res-found = res-passed s (queueOf q) (is-decided (reserves s (queueOf q)) what e b f true d)
+
+  pub free-reserved : model.noneOf (roomOf (q .free .room)) ≡ false
+  free-reserved = res-found .0 .free
+
+  pub owner-reserved : Fits w8 s
+  owner-reserved = owner-fits (q .senders) s (isLive (lookup (handlesOf (q .senders)) s)) (snd .shaped .senders) refl (res-found .0 .known)
+
+  spare-reserved : live (permitsOf (q .permits)) < size (permitsOf (q .permits))
+  spare-reserved = let i = kept q snd in omega (arith, slot-left q snd (res-found .1) (res-found .0 .free), i .account .fits, i .sizes .capacity, i .sizes .permits)
 
 -- ---- a value was pushed onto q: nobody waits in the line, or its first is called
 module _ (q : Queue) (shaped : Shaped q) (v : ℕ) (x : Ring) (k : (ring.Sound x) × (ring.values x ≡ ring.values (q .values) ++ (v ∷ [])))
@@ -160,23 +238,26 @@ module _ (q : Queue) (snd : Sound q) (s v : ℕ) (what : What) (e : what ≡ sen
       turned-as q (TrySend s v) a q q′ x
       (stays q (TrySend s v) what a snd (said-as what what woken Nobody NoToken NoToken a refl w refl u)
       (ap (λ (z : What). model.reply (codeOf z) (fieldOf z) [] [] (queueOf q)) e
-      ∙ send-stopped s (queueOf q) v (is-decided q snd (CValue v) s what e b f false d)))
+      ∙ sent-by s (queueOf q) v false (is-decided (sends (CValue v) s (queueOf q)) what e b f false d)))
 
-  module _ (d : b ≡ true) (x : Ring) (k : (ring.Sound x) × (ring.values x ≡ ring.values (q .values) ++ (v ∷ []))) where
-    sent : (r : Turn) → Pushes v (withFree (q .free - 1) q) r → Turned q (TrySend s v) (r .answer) (r .queue)
-    sent r p = does q (TrySend s v) _ r snd (p .does) refl (send-passed s (queueOf q) v (is-decided q snd (CValue v) s what e b f true d))
+  module _ (d : b ≡ true) (g : Available) (m : roomOf (g .room) ≡ model.recount (λ n. n - 1) (roomOf (q .free .room))) (x : Ring) (k : (ring.Sound x) × (ring.values x ≡ ring.values (q .values) ++ (v ∷ []))) where
+    sent : (r : Turn) → Pushes v (withFree g q) r → Turned q (TrySend s v) (r .answer) (r .queue)
+    sent r p =
+        does q (TrySend s v) _ r snd (p .does) refl
+        (ap (λ (z : model.Room). model.doneBy (model.push v (model.setFree z (queueOf q)))) m
+        ∙ sent-by s (queueOf q) v true (is-decided (sends (CValue v) s (queueOf q)) what e b f true d))
 
-    pub sent-alone : (g : Bool) → g ≡ isNil (sideOf (q .ins) .line) → g ≡ true → q′ ≡ withValues x (withFree (q .free - 1) q) → woken ≡ Nobody → Turned q (TrySend s v) a q′
-    sent-alone g h t y w =
-        turned-as q (TrySend s v) a (withValues x (withFree (q .free - 1) q)) q′ y
-        (sent (record { answer = a; queue = withValues x (withFree (q .free - 1) q) })
-        (push-alone (withFree (q .free - 1) q) (shaped-free q (snd .shaped) (q .free - 1)) v x k what (is-done q snd (CValue v) s what e b f d) woken a u g h t w))
+    pub sent-alone : (l : Bool) → l ≡ isNil (sideOf (q .ins) .line) → l ≡ true → q′ ≡ withValues x (withFree g q) → woken ≡ Nobody → Turned q (TrySend s v) a q′
+    sent-alone l h t y w =
+        turned-as q (TrySend s v) a (withValues x (withFree g q)) q′ y
+        (sent (record { answer = a; queue = withValues x (withFree g q) })
+        (push-alone (withFree g q) (shaped-free q (snd .shaped) g) v x k what (is-done q snd (CValue v) s what e b f d) woken a u l h t w))
 
-    pub sent-called : (o : CalledOne) → CallsOne (q .ins) o → q′ ≡ withIns (o .side) (withValues x (withFree (q .free - 1) q)) → woken ≡ o .woken → Turned q (TrySend s v) a q′
+    pub sent-called : (o : CalledOne) → CallsOne (q .ins) o → q′ ≡ withIns (o .side) (withValues x (withFree g q)) → woken ≡ o .woken → Turned q (TrySend s v) a q′
     sent-called o h y w =
-        turned-as q (TrySend s v) a (withIns (o .side) (withValues x (withFree (q .free - 1) q))) q′ y
-        (sent (record { answer = a; queue = withIns (o .side) (withValues x (withFree (q .free - 1) q)) })
-        (push-called (withFree (q .free - 1) q) (shaped-free q (snd .shaped) (q .free - 1)) v x k what (is-done q snd (CValue v) s what e b f d) woken a u o h w))
+        turned-as q (TrySend s v) a (withIns (o .side) (withValues x (withFree g q))) q′ y
+        (sent (record { answer = a; queue = withIns (o .side) (withValues x (withFree g q)) })
+        (push-called (withFree g q) (shaped-free q (snd .shaped) g) v x k what (is-done q snd (CValue v) s what e b f d) woken a u o h w))
 
 -- ---- given, try_res
 pub given-some : (x : Number) (n : ℕ) → x ≡ GivenNo n → WGiven n ≡ givenBy x
@@ -186,29 +267,29 @@ given-number : (x : Number) (n : ℕ) → numbered x ≡ some n → x ≡ GivenN
 given-number NoNumber n e = let z : _≡_ {A = ℕ} 0 1 = cc in absurd (omega arith)
 given-number (GivenNo m) n e = let z : m ≡ n = cc in ap GivenNo z
 
-module _ (q : Queue) (snd : Sound q) (s : ℕ) (what : What) (e : what ≡ sends Nothing s (queueOf q)) (b : Bool) (f : b ≡ isDone what)
+module _ (q : Queue) (snd : Sound q) (s : ℕ) (what : What) (e : what ≡ reserves s (queueOf q)) (b : Bool) (f : b ≡ isDone what)
     (what′ : What) (a : Answer) (u : Says what′ [] [] a) (q′ : Queue) where
   pub res-not : b ≡ false → q′ ≡ q → what′ ≡ what → Turned q (TryRes s) a q′
   res-not d x w =
       turned-as q (TryRes s) a q q′ x
       (stays q (TryRes s) what a snd (subst (λ (z : What). Says z [] [] a) w u)
       (ap (λ (z : What). model.reply (codeOf z) (fieldOf z) [] [] (queueOf q)) e
-      ∙ res-stopped s (queueOf q) (is-decided q snd Nothing s what e b f false d)))
+      ∙ reserved-by s (queueOf q) false (is-decided (reserves s (queueOf q)) what e b f false d)))
 
-  pub res-taken : b ≡ true → (o : Given) → Gives (q .permits) s o → (w : What) → w ≡ givenBy (o .number) → q′ ≡ withPermits (o .permits) (withFree (q .free - 1) q) → what′ ≡ w → Turned q (TryRes s) a q′
-  res-taken d o k w g x y =
-      let i = kept q snd in
-      let p : 1 ≤ q .free = free-sent q snd Nothing s what e b f d in
-      let h : live (permitsOf (q .permits)) < size (permitsOf (q .permits)) = omega (arith, i .account .fits, i .sizes .capacity, i .sizes .permits) in
+  pub res-taken : b ≡ true → (l : Available) → roomOf (l .room) ≡ model.recount (λ n. n - 1) (roomOf (q .free .room)) → (o : Given) → Gives (q .permits) s o → (w : What) → w ≡ givenBy (o .number)
+      → q′ ≡ withPermits (o .permits) (withFree l q) → what′ ≡ w → Turned q (TryRes s) a q′
+  res-taken d l j o k w g x y =
+      let h = spare-reserved q snd s what e b f d in
       let n = spare (permitsOf (q .permits)) h in
       let m : o .number ≡ GivenNo (n .0) = given-number (o .number) (n .0) (k .number ∙ n .1) in
       let said : Says (WGiven (n .0)) [] [] a = subst (λ (z : What). Says z [] [] a) (y ∙ (g ∙ ap givenBy m)) u in
-      turned-as q (TryRes s) a (withPermits (o .permits) (withFree (q .free - 1) q)) q′ x
-      (does q (TryRes s) _ (record { answer = a; queue = withPermits (o .permits) (withFree (q .free - 1) q) }) snd
-      (complete-given (withFree (q .free - 1) q) (shaped-free q (snd .shaped) (q .free - 1)) Nothing s refl o k (n .0) a m said .does)
-      (complete-good model.bare s (queueOf q) (queueOf (withFree (q .free - 1) q)) refl h)
-      (complete-either model.bare s (queueOf q) (queueOf (withFree (q .free - 1) q)) refl h
-      ∙ res-passed s (queueOf q) (is-decided q snd Nothing s what e b f true d)))
+      turned-as q (TryRes s) a (withPermits (o .permits) (withFree l q)) q′ x
+      (does q (TryRes s) _ (record { answer = a; queue = withPermits (o .permits) (withFree l q) }) snd
+      (complete-given (withFree l q) (shaped-free q (snd .shaped) l) Nothing s refl o k (n .0) a m said .does)
+      (complete-good model.bare s (queueOf q) (queueOf (withFree l q)) refl h)
+      (complete-either model.bare s (queueOf q) (queueOf (withFree l q)) refl h
+      ∙ (ap (λ (z : model.Room). model.givePermit s (queueOf q) (model.setFree z (queueOf q))) j
+      ∙ reserved-by s (queueOf q) true (is-decided (reserves s (queueOf q)) what e b f true d))))
 
 -- ---- permit_send, permit_drop
 module _ (q : Queue) (snd : Sound q) (p : ℕ) (b : Bool) (e : b ≡ isLive (lookup (permitsOf (q .permits)) p)) where
@@ -252,11 +333,11 @@ module _ (q : Queue) (snd : Sound q) (p : ℕ) (b : Bool) (e : b ≡ isLive (loo
             (release-gone (withPermits t q) rest-shaped Done NoToken n f a z (said-as what Done woken Nobody NoToken NoToken a y w refl u)))
 
         module _ (z : n ≡ 0 → ⊥) (g : Bool) (l : g ≡ isNil (sideOf (q .outs) .line)) where
-          pub dropped-free : g ≡ true → q′ ≡ withFree (q .free + 1) (withPermits t q) → woken ≡ Nobody → Turned q (PermitDrop p) a q′
-          dropped-free m x w =
-              turned-as q (PermitDrop p) a (withFree (q .free + 1) (withPermits t q)) q′ x
-              (drop-done q snd p b e (ap not d) t k NoToken (record { answer = a; queue = withFree (q .free + 1) (withPermits t q) }) refl
-              (release-free (withPermits t q) rest-shaped Done NoToken n f z g l a m (said-as what Done woken Nobody NoToken NoToken a y w refl u)))
+          pub dropped-free : (f′ : Available) → roomOf (f′ .room) ≡ model.recount (λ x. x + 1) (roomOf (q .free .room)) → g ≡ true → q′ ≡ withFree f′ (withPermits t q) → woken ≡ Nobody → Turned q (PermitDrop p) a q′
+          dropped-free f′ h m x w =
+              turned-as q (PermitDrop p) a (withFree f′ (withPermits t q)) q′ x
+              (drop-done q snd p b e (ap not d) t k NoToken (record { answer = a; queue = withFree f′ (withPermits t q) }) refl
+              (release-free (withPermits t q) rest-shaped Done NoToken n f z g l f′ h a m (said-as what Done woken Nobody NoToken NoToken a y w refl u)))
 
           pub dropped-called : g ≡ false → (o : CalledOne) → CallsOne (q .outs) o → q′ ≡ withOuts (o .side) (withPermits t q) → woken ≡ o .woken → Turned q (PermitDrop p) a q′
           dropped-called m o h x w =

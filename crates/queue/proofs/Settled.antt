@@ -5,7 +5,7 @@ use mathlib.Core.Bool.{Bool, true, false, not}
 use mathlib.Core.List.{List, [], _∷_, _++_}
 use mathlib.Core.Option.{Option, none, some}
 use native.Mathlib.Omega.{arith}
-use borrow.Author.Tests.{eq-eqb, ne-eqb, ltb-true, not-true, not-false}
+use borrow.Author.Tests.{eq-eqb, ne-eqb, eqb-false, ltb-true, not-true, not-false}
 use lib.Dec.{eqb, ltb}
 use mir.Val.{Fits}
 use mir.Syntax.{w8}
@@ -20,23 +20,27 @@ use Rattle.side.specs.declared.Entry.{Entry}
 use Rattle.side.specs.declared.View.the-variants.{Found}
 use Rattle.side.specs.declared.OptToken.{OptToken}
 use Rattle.side.specs.declared.Woken.{Woken}
-use Rattle.side.specs.Meaning.{deedOf, tokenList, wokenTokens}
+use Rattle.side.specs.Meaning.{Deed, sideOf, deedOf, tokenList, wokenTokens}
 use Rattle.side.specs.Sound as side
 use Rattle.side.specs.Calls.{Open, Sees}
 use Rattle.model.specs.Table.{Table, lookup, live}
 use Rattle.model.specs.Queue as model
 use Rattle.model.specs.declared.Call.{Call}
-use Rattle.model.specs.Calls.{make, step, after}
-use Rattle.model.proofs.Kept.{Inv}
-use Rattle.model.proofs.Theorems.{make-inv, after-inv}
+use Rattle.model.specs.Calls.{begin, step, after}
+use Rattle.model.proofs.TableLaws.{is-live}
+use Rattle.model.proofs.Kept.{Inv, Stored, none-reserved}
+use Rattle.model.proofs.Theorems.{begin-inv, after-inv}
 use Rattle.queue.specs.declared.Queue.{Queue}
+use Rattle.queue.specs.declared.available.Available.{Available}
+use Rattle.queue.specs.declared.Room.{Room}
+use Rattle.queue.specs.declared.Room.the-variants.{Unbounded, Slots}
 use Rattle.queue.specs.declared.What.{What}
 use Rattle.queue.specs.declared.Answer.{Answer}
 use Rattle.queue.specs.declared.Turn.{Turn}
-use Rattle.queue.specs.Meaning.{queueOf, Shaped, Sound}
+use Rattle.queue.specs.Meaning.{roomOf, queueOf, Shaped, Sound}
 use Rattle.queue.specs.Answers.{codeOf, fieldOf, resultOf}
 use Rattle.queue.specs.Promise.{Turned}
-use Rattle.queue.specs.Steps.{Says, Does}
+use Rattle.queue.specs.Steps.{Small, Says, Does}
 
 -- ---- one more call
 after-more : (cs : List Call) (c : Call) (q : model.Queue) → after (cs ++ (c ∷ [])) q ≡ step c (after cs q) .next
@@ -44,9 +48,9 @@ unfolding after
 after-more [] c q = refl
 after-more (x ∷ cs) c q = after-more cs c (step x q .next)
 
--- the definition's invariant holds of every queue that came from make and calls
+-- the definition's invariant holds of every queue that came from make or make-u and calls
 pub kept : (q : Queue) → Sound q → Inv 0 0 (queueOf q)
-kept q s = subst (Inv 0 0) (sym (s .came .is)) (after-inv (s .came .calls) (make (s .came .capacity) .next) (make-inv (s .came .capacity)))
+kept q s = subst (Inv 0 0) (sym (s .came .is)) (after-inv (s .came .calls) (begin (s .came .begun) .next) (begin-inv (s .came .begun)))
 
 settled : (q : Queue) (c : Call) (a : Answer) (q′ : Queue) → Sound q → Shaped q′ → resultOf a q′ ≡ step c (queueOf q) → (20 ≤ codeOf (a .what) → q′ ≡ q) → Turned q c a q′
 settled q c a q′ s k e same =
@@ -54,11 +58,11 @@ settled q c a q′ s k e same =
       sound = record {
         shaped = k;
         came = record {
-          capacity = s .came .capacity;
+          begun = s .came .begun;
           calls = s .came .calls ++ (c ∷ []);
           is =
               ap (λ (m : model.Result). m .next) e
-              ∙ (ap (λ (m : model.Queue). step c m .next) (s .came .is) ∙ sym (after-more (s .came .calls) c (make (s .came .capacity) .next)));
+              ∙ (ap (λ (m : model.Queue). step c m .next) (s .came .is) ∙ sym (after-more (s .came .calls) c (begin (s .came .begun) .next)));
         };
       };
       answer = ap (λ (m : model.Result). m .ans) e;
@@ -98,7 +102,7 @@ said-as what what′ woken woken′ t t′ a e f g u =
 abbrev pub withValues : Ring → Queue → Queue
 withValues x q = record { capacity = q .capacity; values = x; free = q .free; senders = q .senders; receivers = q .receivers; permits = q .permits; outs = q .outs; ins = q .ins }
 
-abbrev pub withFree : ℕ → Queue → Queue
+abbrev pub withFree : Available → Queue → Queue
 withFree x q = record { capacity = q .capacity; values = q .values; free = x; senders = q .senders; receivers = q .receivers; permits = q .permits; outs = q .outs; ins = q .ins }
 
 abbrev pub withSenders : Handles → Queue → Queue
@@ -120,7 +124,7 @@ module _ (q : Queue) (s : Shaped q) where
   pub shaped-values : (x : Ring) → ring.Sound x → Shaped (withValues x q)
   shaped-values x h = record { values = h; senders = s .senders; receivers = s .receivers; permits = s .permits; outs = s .outs; ins = s .ins }
 
-  pub shaped-free : (x : ℕ) → Shaped (withFree x q)
+  pub shaped-free : (x : Available) → Shaped (withFree x q)
   shaped-free x = record { values = s .values; senders = s .senders; receivers = s .receivers; permits = s .permits; outs = s .outs; ins = s .ins }
 
   pub shaped-senders : (x : Handles) → HandlesSound x → Shaped (withSenders x q)
@@ -167,9 +171,29 @@ module _ {A : Type 0} (t : Table A) (n : ℕ) (e : n ≡ live t) where
   pub some-left : (n ≡ 0 → ⊥) → eqb (live t) 0 ≡ false
   some-left z = ne-eqb (live t) 0 (λ p. z (e ∙ p))
 
--- ---- counts of a sound queue
-pub free-small : (q : Queue) → Sound q → q .free ≤ 64
-free-small q s = let i = kept q s in omega (arith, i .account .fits, i .sizes .capacity)
+-- ---- the free room of a sound queue
+pub free-small : (q : Queue) → Sound q → Small (q .free .room)
+free-small q s = let i = kept q s in by (q .free .room) (i .account .left) (q .capacity) (i .account .stored) (omega (arith, i .account .fits, i .sizes .capacity))
+  where
+    by : (f : Room) (left c : ℕ) → Stored (roomOf f) left c → left ≤ 64 → Small f
+    by Unbounded left c e h = tt
+    by (Slots n) left c e h = omega (arith, e, h)
+
+-- where slots are counted and one is free, room is left
+pub slot-left : (q : Queue) (s : Sound q) → model.isUnbounded (queueOf q) ≡ false → model.noFree (queueOf q) ≡ false → 1 ≤ kept q s .account .left
+slot-left q s = by (q .free .room) (kept q s .account .left) (q .capacity) (kept q s .account .stored)
+  where
+    by : (f : Room) (left c : ℕ) → Stored (roomOf f) left c → model.uncounted (roomOf f) ≡ false → model.noneOf (roomOf f) ≡ false → 1 ≤ left
+    by Unbounded left c e u h = let z : _≡_ {A = ℕ} 0 1 = cc in absurd (omega arith)
+    by (Slots n) left c e u h = let z = eqb-false n 0 h in omega arith
+
+-- on an unbounded queue no operation of a sender is open
+pub reserved-counted : (q : Queue) → Sound q → (n : ℕ) (op : Deed) → lookup (sideOf (q .outs) .ops) n ≡ some op → model.isUnbounded (queueOf q) ≡ false
+reserved-counted q s n op f = by (roomOf (q .free .room)) refl
+  where
+    by : (r : model.Room) → roomOf (q .free .room) ≡ r → model.uncounted r ≡ false
+    by (model.slots m) e = refl
+    by model.unbounded e = absurd (omega (arith, none-reserved (queueOf q) (kept q s .sOwn) e .outs (λ o. 1), is-live (sideOf (q .outs) .ops) n op f))
 
 -- the operation that `get` found is open
 pub found-open : (s : Side) (n : ℕ) (e : Entry) → Sees s n (Found e) → Open s n

@@ -7,8 +7,7 @@ use mathlib.Core.Option.{Option, none, some}
 use native.Mathlib.Omega.{arith}
 use lib.ListN.{length}
 use lib.Dec.{T}
-use mir.Val.{Fits, hasKey}
-use mir.Syntax.{w32}
+use mir.Val.{hasKey}
 use types.Run.{OneOf, miss}
 use denote.Enum.Declared.{tagOf}
 use Rattle.ring.specs.declared.Front.the-variants.{Value as FValue, Nothing as FNothing}
@@ -40,16 +39,17 @@ use Rattle.model.specs.declared.Call.the-variants.{Recv, TryRecv, PollIn, Cance
 use Rattle.model.specs.Calls.{step, tryRecv}
 use Rattle.model.proofs.Leaves.{tryRecv-dead, tryRecv-value, tryRecv-gone, tryRecv-empty, pollIn-dead, pollIn-value, pollIn-gone, pollIn-pending}
 use Rattle.queue.specs.declared.Queue.{Queue}
+use Rattle.queue.specs.declared.available.Available.{Available}
 use Rattle.queue.specs.declared.What.{What}
 use Rattle.queue.specs.declared.What.the-variants.{Done, Value as WValue, Given as WGiven, Pending, Empty, Disconnected, NoHandle, NoRoom}
 use Rattle.queue.specs.declared.Answer.{Answer}
 use Rattle.queue.specs.declared.Turn.{Turn}
-use Rattle.queue.specs.Meaning.{queueOf, Shaped, Sound}
+use Rattle.queue.specs.Meaning.{roomOf, queueOf, Shaped, Sound}
 use Rattle.queue.specs.Answers.{codeOf, fieldOf}
 use Rattle.queue.specs.Promise.{Turned}
 use Rattle.queue.specs.Steps.{Says, takable, takableOf, receivable, receivableOf, pollable, keptOf, passes}
 use Rattle.queue.proofs.Moves.{Notifies, Releases, releasing}
-use Rattle.queue.proofs.Settled.{kept, stays, moves, does, turned-as, said-as, withValues, withFree, withOuts, withIns, shaped-values, shaped-ins, dead, alive, none-left, some-left, free-small, found-open}
+use Rattle.queue.proofs.Settled.{kept, stays, moves, does, turned-as, said-as, withValues, withFree, withOuts, withIns, shaped-values, shaped-ins, dead, alive, none-left, some-left, found-open}
 use Rattle.queue.proofs.Sending.{notify-nobody, notify-one, release-free, release-grant, sees-found}
 use Rattle.queue.proofs.Receiving.{Pops, first-value, first-nothing, recv-dead, recv-full, recv-given, leave-in-dead, leave-in-passed, leave-in-other}
 use Rattle.queue.proofs.What.{the-type}
@@ -102,20 +102,16 @@ receiver-left q snd v l e z = let g = kept q snd .account .gone z in let h : len
 -- ---- a slot comes back while a receiver is left: to the free room, or to the first sender in line
 module _ (m : Queue) (sh : Shaped m) (z : live (handlesOf (m .receivers)) ≡ 0 → ⊥) (what : What) (t : OptToken)
     (b : Bool) (g : b ≡ isNil (sideOf (m .outs) .line)) (woken : Woken) (a : Answer) (u : Says what (wokenTokens woken) (tokenList t) a) where
-  pub slot-free : b ≡ true → woken ≡ NoOne → Releases what t m (record { answer = a; queue = withFree (m .free + 1) m })
-  slot-free y w = release-free m sh what t (live (handlesOf (m .receivers))) refl z b g a y (said-as what what woken NoOne t t a refl w refl u)
+  pub slot-free : (f′ : Available) → roomOf (f′ .room) ≡ model.recount (λ x. x + 1) (roomOf (m .free .room)) → b ≡ true → woken ≡ NoOne → Releases what t m (record { answer = a; queue = withFree f′ m })
+  slot-free f′ p y w = release-free m sh what t (live (handlesOf (m .receivers))) refl z b g f′ p a y (said-as what what woken NoOne t t a refl w refl u)
 
   pub slot-granted : (c : CalledOne) → b ≡ false → CallsOne (m .outs) c → woken ≡ c .woken → Releases what t m (record { answer = a; queue = withOuts (c .side) m })
   slot-granted c y k w = release-grant m sh what t (live (handlesOf (m .receivers))) refl z b g c a y k (said-as what what woken (c .woken) t t a refl w refl u)
 
--- the free room with a slot more
-pub slot-fits : (q : Queue) → Sound q → Fits w32 (q .free + 1)
-slot-fits q snd = record { fits = omega (arith, free-small q snd) }
-
 -- ---- try_recv
 -- the tags that try_recv has no arm for: all but that of Value
 abbrev untaken : List ℕ
-untaken = 0 ∷ 1 ∷ 3 ∷ 4 ∷ 5 ∷ 6 ∷ 7 ∷ 8 ∷ 9 ∷ 10 ∷ 11 ∷ 12 ∷ []
+untaken = 0 ∷ 1 ∷ 3 ∷ 4 ∷ 5 ∷ 6 ∷ 7 ∷ 8 ∷ 9 ∷ 10 ∷ 11 ∷ 12 ∷ 13 ∷ 14 ∷ []
 
 -- where it takes nothing it answers what it is told, and changes nothing
 module _ (s : ℕ) (q : model.Queue) (what : What) (t : OneOf untaken (tagOf the-type what)) where
@@ -164,10 +160,10 @@ module _ (q : Queue) (snd : Sound q) (s : ℕ) (what : What) (e : what ≡ recei
       received : live (handlesOf (q .receivers)) ≡ 0 → ⊥
       received = receiver-left q snd v (ring.rest (ring.values (q .values))) first-one
 
-      pub took-free : b ≡ true → q′ ≡ withFree (q .free + 1) (withValues x q) → woken ≡ NoOne → Turned q (TryRecv s) a q′
-      took-free y h w =
-          turned-as q (TryRecv s) a (withFree (q .free + 1) (withValues x q)) q′ h
-          (took (record { answer = a; queue = withFree (q .free + 1) (withValues x q) }) (slot-free (withValues x q) rest-shaped received what NoToken b g woken a u y w))
+      pub took-free : (f′ : Available) → roomOf (f′ .room) ≡ model.recount (λ y. y + 1) (roomOf (q .free .room)) → b ≡ true → q′ ≡ withFree f′ (withValues x q) → woken ≡ NoOne → Turned q (TryRecv s) a q′
+      took-free f′ p y h w =
+          turned-as q (TryRecv s) a (withFree f′ (withValues x q)) q′ h
+          (took (record { answer = a; queue = withFree f′ (withValues x q) }) (slot-free (withValues x q) rest-shaped received what NoToken b g woken a u f′ p y w))
 
       pub took-granted : (c : CalledOne) → b ≡ false → CallsOne (q .outs) c → q′ ≡ withOuts (c .side) (withValues x q) → woken ≡ c .woken → Turned q (TryRecv s) a q′
       took-granted c y z h w =
@@ -205,7 +201,7 @@ pending-told (x ∷ l) gone e = let z : _≡_ {A = ℕ} 0 1 = cc in absurd (omeg
 
 -- the tags that poll_in has no arm for: all but those of Value, Pending and Disconnected
 abbrev unpolled : List ℕ
-unpolled = 0 ∷ 1 ∷ 3 ∷ 5 ∷ 6 ∷ 7 ∷ 9 ∷ 10 ∷ 11 ∷ 12 ∷ []
+unpolled = 0 ∷ 1 ∷ 3 ∷ 5 ∷ 6 ∷ 7 ∷ 9 ∷ 10 ∷ 11 ∷ 12 ∷ 13 ∷ 14 ∷ []
 
 -- ---- poll_in
 module _ (q : Queue) (snd : Sound q) (n : ℕ) (view : View) (sees : Sees (q .ins) n view) (what : What) (e : what ≡ pollable (viewed view) (queueOf q)) where
@@ -258,11 +254,11 @@ module _ (q : Queue) (snd : Sound q) (n : ℕ) (view : View) (sees : Sees (q .in
         in-said : Says what (wokenTokens woken) (tokenList kept) a
         in-said = said-as what what woken woken retired kept a refl refl m u
 
-        pub in-free : b ≡ true → q′ ≡ withFree (q .free + 1) (withValues p (withIns o q)) → woken ≡ NoOne → Turned q (PollIn n t) a q′
-        in-free d h w =
-            turned-as q (PollIn n t) a (withFree (q .free + 1) (withValues p (withIns o q))) q′ h
-            (in-took (record { answer = a; queue = withFree (q .free + 1) (withValues p (withIns o q)) })
-            (slot-free (withValues p (withIns o q)) in-shaped in-received what kept b g woken a in-said d w))
+        pub in-free : (f′ : Available) → roomOf (f′ .room) ≡ model.recount (λ y. y + 1) (roomOf (q .free .room)) → b ≡ true → q′ ≡ withFree f′ (withValues p (withIns o q)) → woken ≡ NoOne → Turned q (PollIn n t) a q′
+        in-free f′ l d h w =
+            turned-as q (PollIn n t) a (withFree f′ (withValues p (withIns o q))) q′ h
+            (in-took (record { answer = a; queue = withFree f′ (withValues p (withIns o q)) })
+            (slot-free (withValues p (withIns o q)) in-shaped in-received what kept b g woken a in-said f′ l d w))
 
         pub in-granted : (c : CalledOne) → b ≡ false → CallsOne (q .outs) c → q′ ≡ withOuts (c .side) (withValues p (withIns o q)) → woken ≡ c .woken → Turned q (PollIn n t) a q′
         in-granted c d z h w =

@@ -1,14 +1,15 @@
 -- THE ANSWERS: document 01's number and field for each case, and what an answer tells. Assumes nothing.
 use Prim.Native.Nat.{ℕ}
-use mathlib.Core.List.{List, [], _∷_}
+use mathlib.Core.List.{List, [], _∷_, _++_}
 use lib.ListN.{take}
 use Rattle.side.specs.Meaning.{carried, tokenList}
 use Rattle.model.specs.Queue as model
+use Rattle.model.specs.Calls.{shown}
 use Rattle.queue.specs.declared.Queue.{Queue}
 use Rattle.queue.specs.declared.What.{What}
-use Rattle.queue.specs.declared.What.the-variants.{Done, Discarded, Value, Given, Pending, Status, Full, Empty, Disconnected, BadCapacity, NoHandle, InUse, NoRoom}
+use Rattle.queue.specs.declared.What.the-variants.{Done, Discarded, Value, Given, Pending, Status, Full, Empty, Disconnected, BadCapacity, NoHandle, InUse, NoRoom, RingFull, WrongKind}
 use Rattle.queue.specs.declared.Answer.{Answer}
-use Rattle.queue.specs.Meaning.{queueOf}
+use Rattle.queue.specs.Meaning.{roomOf, queueOf}
 
 abbrev pub codeOf : What → ℕ
 codeOf Done = model.DONE
@@ -24,6 +25,8 @@ codeOf BadCapacity = model.BAD-CAPACITY
 codeOf NoHandle = model.NO-HANDLE
 codeOf InUse = model.IN-USE
 codeOf NoRoom = model.NO-ROOM
+codeOf RingFull = model.RING-FULL
+codeOf WrongKind = model.WRONG-KIND
 
 abbrev pub fieldOf : What → List ℕ
 fieldOf Done = []
@@ -31,7 +34,7 @@ fieldOf (Discarded n) = n ∷ []
 fieldOf (Value v) = v ∷ []
 fieldOf (Given n) = n ∷ []
 fieldOf Pending = []
-fieldOf (Status s) = s .queued ∷ s .free ∷ s .permits ∷ s .granted ∷ s .lined ∷ s .waiting ∷ []
+fieldOf (Status s) = s .queued ∷ (shown (roomOf (s .free)) ++ (s .permits ∷ s .granted ∷ s .lined ∷ s .waiting ∷ []))
 fieldOf (Full c) = model.cargo (carried c)
 fieldOf Empty = []
 fieldOf (Disconnected c) = model.cargo (carried c)
@@ -39,6 +42,8 @@ fieldOf BadCapacity = []
 fieldOf NoHandle = []
 fieldOf InUse = []
 fieldOf NoRoom = []
+fieldOf RingFull = []
+fieldOf WrongKind = []
 
 -- code, field, tokens to wake in order, retired token
 abbrev pub ansOf : Answer → model.Ans

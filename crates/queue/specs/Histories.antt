@@ -1,10 +1,9 @@
--- WHOLE HISTORIES: what follows from the promises for any list of calls after make (proofs/Histories.antt), and that a promise leaves
+-- WHOLE HISTORIES: what follows from the promises for any list of calls after make or make-u (proofs/Histories.antt), and that a promise leaves
 -- one answer (proofs/One.antt). Assumes nothing.
-use Prim.Native.Nat.{ℕ}
 use mathlib.Core.Path.{_≡_}
 use mathlib.Core.List.{List, [], _∷_, map}
 use Rattle.model.specs.declared.Call.{Call}
-use Rattle.model.specs.Calls.{make, answers, after}
+use Rattle.model.specs.Calls.{Begin, begin, answers, after}
 use Rattle.model.specs.Queue as model
 use Rattle.model.specs.Promises.{Demand3}
 use Rattle.queue.specs.declared.Queue.{Queue}
@@ -18,12 +17,12 @@ pub data Run : Queue → List Call → List Answer → Queue → Type 0 where
   done : {q : Queue} → Run q [] [] q
   then : {q q₁ q₂ : Queue} {c : Call} {a : Answer} {cs : List Call} {al : List Answer} → Turned q c a q₁ → Run q₁ cs al q₂ → Run q (c ∷ cs) (a ∷ al) q₂
 
--- what is promised of a run from make with the capacity n: the answers are the definition's, and so is the queue in the end; demand 3 holds
+-- what is promised of a run from make or make-u: the answers are the definition's, and so is the queue in the end; demand 3 holds
 -- of it; and it is sound, so that one more call may be made. (Each queue on the way is the end of a shorter run.)
-pub record Kept (n : ℕ) (cs : List Call) (al : List Answer) (q : Queue) : Type 0 where
+pub record Kept (b : Begin) (cs : List Call) (al : List Answer) (q : Queue) : Type 0 where
   pub sound : Sound q
-  pub answers : map ansOf al ≡ answers cs (make n .next)
-  pub after : queueOf q ≡ after cs (make n .next)
+  pub answers : map ansOf al ≡ answers cs (begin b .next)
+  pub after : queueOf q ≡ after cs (begin b .next)
   pub demand3 : Demand3 (queueOf q)
 
 -- the same of every queue on the way, the first and the last included

@@ -1,7 +1,7 @@
 -- What the queue promises. Read in this order:
 --   Meaning    what a queue means, and what every call may rely on
 --   Answers    document 01's number and field for each answer
---   Promise    the promise of make and of every call
+--   Promise    the promise of both makes and of every call
 --   Histories  what follows for any list of calls
 --   Steps      the steps inside the calls
 pub mod Meaning

@@ -1,5 +1,4 @@
--- THE MEANING OF A QUEUE, and what every call may rely on: that the queue came from make and calls. Assumes nothing.
-use Prim.Native.Nat.{ℕ}
+-- THE MEANING OF A QUEUE, and what every call may rely on: that the queue came from make or make-u and calls. Assumes nothing.
 use mathlib.Core.Path.{_≡_}
 use mathlib.Core.List.{List}
 use Rattle.ring.specs.Values as ring
@@ -8,14 +7,20 @@ use Rattle.side.specs.Meaning.{sideOf}
 use Rattle.side.specs.Sound as side
 use Rattle.model.specs.Queue as model
 use Rattle.model.specs.declared.Call.{Call}
-use Rattle.model.specs.Calls.{make, after}
+use Rattle.model.specs.Calls.{Begin, begin, after}
 use Rattle.queue.specs.declared.Queue.{Queue}
+use Rattle.queue.specs.declared.Room.{Room}
+use Rattle.queue.specs.declared.Room.the-variants.{Unbounded, Slots}
+
+abbrev pub roomOf : Room → model.Room
+roomOf Unbounded = model.unbounded
+roomOf (Slots n) = model.slots n
 
 abbrev pub queueOf : Queue → model.Queue
 queueOf q = record {
   cap = q .capacity;
   values = ring.values (q .values);
-  free = q .free;
+  free = roomOf (q .free .room);
   senders = handlesOf (q .senders);
   receivers = handlesOf (q .receivers);
   outs = sideOf (q .outs);
@@ -32,11 +37,11 @@ pub record Shaped (q : Queue) : Type 0 where
   pub outs : side.Sound (q .outs)
   pub ins : side.Sound (q .ins)
 
--- it came from make and from calls: all that a call relies on besides
+-- it came from make or make-u and from calls: all that a call relies on besides
 pub record Came (q : model.Queue) : Type 0 where
-  pub capacity : ℕ
+  pub begun : Begin
   pub calls : List Call
-  pub is : q ≡ after calls (make capacity .next)
+  pub is : q ≡ after calls (begin begun .next)
 
 pub record Sound (q : Queue) : Type 0 where
   pub shaped : Shaped q

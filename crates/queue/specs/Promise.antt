@@ -1,9 +1,9 @@
 -- THE PROMISES. Every call of the queue has the promise `Turned`: the method of its name, the dispatcher, and the entry that a queue is lent
--- to. `make` has `Made`. No call asks for more than `Sound`, which make and every call give. Assumes nothing.
+-- to. `make` and `make_u` have `Made`. No call asks for more than `Sound`, which both makes and every call give. Assumes nothing.
 use Prim.Native.Nat.{ℕ, _≤_}
 use mathlib.Core.Path.{_≡_}
 use Rattle.model.specs.declared.Call.{Call}
-use Rattle.model.specs.Calls.{make, step}
+use Rattle.model.specs.Calls.{Begin, begin, step}
 use Rattle.queue.specs.declared.Queue.{Queue}
 use Rattle.queue.specs.declared.Answer.{Answer}
 use Rattle.queue.specs.Meaning.{queueOf, Sound}
@@ -20,8 +20,8 @@ pub record Turned (q : Queue) (c : Call) (a : Answer) (q′ : Queue) : Type 0 wh
   pub next : queueOf q′ ≡ step c (queueOf q) .next
   pub same : 20 ≤ codeOf (a .what) → q′ ≡ q
 
--- make with the capacity c, which may be any number, gives the answer a and the queue q
-pub record Made (c : ℕ) (a : Answer) (q : Queue) : Type 0 where
+-- make with a capacity, which may be any number, or make-u gives the answer a and the queue q
+pub record Made (b : Begin) (a : Answer) (q : Queue) : Type 0 where
   pub sound : Sound q
-  pub answer : ansOf a ≡ make c .ans
-  pub next : queueOf q ≡ make c .next
+  pub answer : ansOf a ≡ begin b .ans
+  pub next : queueOf q ≡ begin b .next

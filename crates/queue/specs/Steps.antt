@@ -1,5 +1,5 @@
 -- THE STEPS INSIDE THE CALLS, by the definition's move of each name. Assumes nothing.
-use Prim.Native.Nat.{ℕ, _-_}
+use Prim.Native.Nat.{ℕ, _-_, _≤_}
 use mathlib.Core.Path.{_≡_}
 use mathlib.Core.Logic.{_⊎_}
 use mathlib.Core.Bool.{Bool, true, false, not, _&&_}
@@ -23,14 +23,17 @@ use Rattle.model.specs.Queue as model
 use Rattle.model.specs.declared.Call.{Call}
 use Rattle.model.specs.declared.Call.the-variants.{Reserve, Send}
 use Rattle.queue.specs.declared.Queue.{Queue}
+use Rattle.queue.specs.declared.Room.{Room}
+use Rattle.queue.specs.declared.Room.the-variants.{Unbounded, Slots}
 use Rattle.queue.specs.declared.Counts.{Counts}
 use Rattle.queue.specs.declared.What.{What}
-use Rattle.queue.specs.declared.What.the-variants.{Done, Discarded, Value as WValue, Given as WGiven, Pending, Status as WStatus, Full, Empty, Disconnected, BadCapacity, NoHandle, InUse, NoRoom}
+use Rattle.queue.specs.declared.What.the-variants.{Done, Discarded, Value as WValue, Given as WGiven, Pending, Status as WStatus, Full, Empty, Disconnected, BadCapacity, NoHandle, InUse, NoRoom, RingFull, WrongKind}
 use Rattle.queue.specs.declared.Answer.{Answer}
 use Rattle.queue.specs.declared.Turn.{Turn}
+use Rattle.queue.specs.declared.available.Available.{Available}
 use Rattle.queue.specs.declared.outgoing.Outcome.{Outcome}
 use Rattle.queue.specs.declared.outgoing.Outcome.the-variants.{NoHandle as NoOperation, Gone, Permit, Push, Stays}
-use Rattle.queue.specs.Meaning.{queueOf, Shaped}
+use Rattle.queue.specs.Meaning.{roomOf, queueOf, Shaped}
 use Rattle.queue.specs.Answers.{codeOf, fieldOf, ansOf, resultOf}
 
 -- an answer with these wakes and this retired token
@@ -82,9 +85,14 @@ abbrev pub keptOf : Option (side.Op model.Job) → List ℕ
 keptOf none = []
 keptOf (some op) = side.kept (op .stage)
 
+-- ---- a free room of at most 64 slots, if it is counted
+abbrev pub Small : Room → Type 0
+Small Unbounded = Unit {0}
+Small (Slots n) = n ≤ 64
+
 -- ---- tests
-abbrev pub ready : side.Stage → ℕ → Bool
-ready st free = eqb (side.waits st) 0 && not (eqb free 0)
+abbrev pub ready : side.Stage → model.Room → Bool
+ready st free = eqb (side.waits st) 0 && not (model.noneOf free)
 
 -- a cancelled operation at this stage passes its notice on
 abbrev pub passes : side.Stage → ℕ → ℕ → Bool
@@ -105,13 +113,19 @@ isDone BadCapacity = false
 isDone NoHandle = false
 isDone InUse = false
 isDone NoRoom = false
+isDone RingFull = false
+isDone WrongKind = false
 
--- ---- what a try-send or a try-res of the sender s answers, by the definition's tests; c is what goes back where it does not go through
-abbrev pub tried : Cargo → Bool → Bool → Bool → What
-tried c known gone full = if known then (if gone then Disconnected c else (if full then Full c else Done)) else NoHandle
+-- ---- what a try-send of the sender s answers, by the definition's tests; c is what goes back where it does not go through
+abbrev pub tried : Cargo → Bool → Bool → Bool → Bool → What
+tried c known gone full ringFull = if known then (if gone then Disconnected c else (if full then Full c else (if ringFull then RingFull else Done))) else NoHandle
 
 unfoldable pub sends : Cargo → ℕ → model.Queue → What
-sends c s q = tried c (isLive (lookup (q .senders) s)) (model.noReceiver q) (model.noFree q)
+sends c s q = tried c (isLive (lookup (q .senders) s)) (model.noReceiver q) (model.noFree q) (model.ringFull q)
+
+-- ---- and a try-res: on an unbounded queue nothing can be reserved
+unfoldable pub reserves : ℕ → model.Queue → What
+reserves s q = if isLive (lookup (q .senders) s) && model.isUnbounded q then WrongKind else sends Nothing s q
 
 -- ---- the answer to a call that asks for a number
 abbrev pub givenBy : Number → What
@@ -120,7 +134,7 @@ givenBy (GivenNo n) = WGiven n
 
 -- ---- what a poll of an outgoing operation comes to
 -- an operation that has its slot, by what it carries; `rest` is the free room that is left
-abbrev pub withSlot : Cargo → ℕ → ℕ → Outcome
+abbrev pub withSlot : Cargo → ℕ → Available → Outcome
 withSlot Nothing owner rest = Permit owner rest
 withSlot (CValue v) owner rest = Push v rest
 
@@ -128,38 +142,38 @@ abbrev pub granted : Entry → Bool
 granted e = eqb (side.isCalled (stageOf (e .stage))) 1
 
 -- its slot is its grant, or one of the free ones
-abbrev pub Slot : Entry → ℕ → ℕ → Type 0
-Slot e free rest = ((granted e ≡ true) × (rest ≡ free)) ⊎ ((granted e ≡ false) × (ready (stageOf (e .stage)) free ≡ true) × (rest ≡ free - 1))
+abbrev pub Slot : Entry → Available → Available → Type 0
+Slot e free rest = ((granted e ≡ true) × (rest ≡ free)) ⊎ ((granted e ≡ false) × (ready (stageOf (e .stage)) (roomOf (free .room)) ≡ true) × (roomOf (rest .room) ≡ model.recount (λ n. n - 1) (roomOf (free .room))))
 
 -- by what is seen of the operation, the receivers left and the free room
-abbrev pub Comes : View → ℕ → ℕ → Outcome → Type 0
+abbrev pub Comes : View → ℕ → Available → Outcome → Type 0
 Comes view left free NoOperation = view ≡ Missing
 Comes view left free (Gone c) = (e : Entry) × (view ≡ Found e) × (left ≡ 0) × (e .cargo ≡ c)
 Comes view left free (Permit s rest) = (e : Entry) × (view ≡ Found e) × (left ≡ 0 → ⊥) × (e .cargo ≡ Nothing) × (e .owner ≡ s) × Slot e free rest
 Comes view left free (Push v rest) = (e : Entry) × (view ≡ Found e) × (left ≡ 0 → ⊥) × (e .cargo ≡ CValue v) × Slot e free rest
-Comes view left free Stays = (e : Entry) × (view ≡ Found e) × (left ≡ 0 → ⊥) × (granted e ≡ false) × (ready (stageOf (e .stage)) free ≡ false)
+Comes view left free Stays = (e : Entry) × (view ≡ Found e) × (left ≡ 0 → ⊥) × (granted e ≡ false) × (ready (stageOf (e .stage)) (roomOf (free .room)) ≡ false)
 
 -- ---- which call opens an operation with this cargo
 abbrev pub opening : Cargo → ℕ → Call
 opening Nothing s = Reserve s
 opening (CValue v) s = Send s v
 
--- ---- the six counts
+-- ---- the counts
 pub record Counted (q : Queue) (r : Counts) : Type 0 where
   pub queued : r .queued ≡ length (queueOf q .values)
-  pub free : r .free ≡ q .free
+  pub free : r .free ≡ q .free .room
   pub permits : r .permits ≡ live (queueOf q .permits)
   pub granted : r .granted ≡ side.calledCount (queueOf q .outs)
   pub lined : r .lined ≡ length (queueOf q .outs .line)
   pub waiting : r .waiting ≡ side.polledCount (queueOf q .ins)
 
 -- ---- a queue with nothing in it, and these handles on both sides
-pub record Blank (c : ℕ) (h : Handles) (r : Queue) : Type 0 where
+pub record Blank (c : ℕ) (f : Room) (h : Handles) (r : Queue) : Type 0 where
   pub shaped : Shaped r
   pub is : queueOf r ≡ record {
     cap = c;
     values = [];
-    free = c;
+    free = roomOf f;
     senders = handlesOf h;
     receivers = handlesOf h;
     outs = record { ops = blank 32; line = [] };

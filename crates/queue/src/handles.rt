@@ -1,5 +1,5 @@
-// Senders and receivers come and go: `Clone` and `Drop` of the handles, and drop_sender and drop_receiver. After src/mpmc/bounded.rs and
-// src/mpmc/queue.rs of asyncband 0.7.4.
+// Senders and receivers come and go: `Clone` and `Drop` of the handles, and drop_sender and drop_receiver. After src/mpmc/bounded.rs,
+// src/mpmc/unbounded.rs and src/mpmc/queue.rs of asyncband 0.7.4.
 use crate::Answer;
 use crate::Queue;
 use crate::Turn;

@@ -118,7 +118,7 @@ impl Queue {
         What::NoHandle
     }
 
-    // Where there is a value to take, a receiver is left, so that its slot is the first waiting sender's or free.
+    // Where there is a value to take, a receiver is left, so that its slot, if slots are counted, is the first waiting sender's or free.
     pub fn try_recv(mut self, r: u32) -> Turn
         requires { ⌜ Sound self ⌝ }
         ensures { λ x. ⌜ Turned self (TryRecv r) (x .answer) (x .queue) ⌝ }
@@ -131,7 +131,8 @@ impl Queue {
                 self.values = without_first(values);
                 let outs = self.outs;
                 if outs.line_is_empty() {
-                    self.free = self.free + 1;
+                    let free = self.free;
+                    self.free = free.more();
                 } else {
                     let called = outs.call_first();
                     woken = called.woken;
@@ -175,7 +176,8 @@ impl Queue {
                 self.values = without_first(values);
                 let outs = self.outs;
                 if outs.line_is_empty() {
-                    self.free = self.free + 1;
+                    let free = self.free;
+                    self.free = free.more();
                 } else {
                     let called = outs.call_first();
                     woken = called.woken;

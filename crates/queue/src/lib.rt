@@ -1,13 +1,15 @@
-// The bounded queue, after src/mpmc/queue.rs and src/mpmc/bounded.rs of asyncband 0.7.4: its record, `make`, a method for each call, and one
-// dispatcher over the calls.
-// The meaning of a queue is the definition's (`queueOf`, specs/Meaning.antt), the promise of every call is `Turned` and that of make `Made`
+// The queue, bounded or unbounded, after src/mpmc/queue.rs, src/mpmc/bounded.rs and src/mpmc/unbounded.rs of asyncband 0.7.4: its record,
+// `make` and `make_u`, a method for each call, and one dispatcher over the calls.
+// The meaning of a queue is the definition's (`queueOf`, specs/Meaning.antt), the promise of every call is `Turned` and that of both makes `Made`
 // (specs/Promise.antt); answers have document 01's numbers by specs/Answers.antt.
+mod available;
 mod handles;
 mod incoming;
 mod outgoing;
 mod says;
 mod status;
 
+use available::Available;
 use model::Call;
 use ring::Ring;
 use says::plain;
@@ -18,28 +20,35 @@ use tables::Handles;
 use tables::Permits;
 use wakes::Wakes;
 ghost use Rattle.tables.specs.Meaning.{HandlesSound};
+ghost use Rattle.model.specs.Calls.{byMake, byMakeU};
 ghost use Rattle.queue.specs.Meaning.{Sound};
 ghost use Rattle.queue.specs.Promise.{Turned, Made};
 ghost use Rattle.queue.specs.Steps.{Blank};
 
-// Only make and the calls give a queue, and nobody else reads or writes its fields. Their order is for speed: the large parts stand apart, with
-// numbers between them, so that a call which leaves one of them alone copies it once.
+// Only the makes and the calls give a queue, and nobody else reads or writes its fields. Their order is for speed: with the two sides side by side
+// the compiler copies less, and the calls of a loop fit into it.
 pub struct Queue {
-    outs: Side,
     capacity: u32,
-    free: u32,
+    outs: Side,
+    ins: Side,
     senders: Handles,
     receivers: Handles,
-    ins: Side,
+    free: Available,
     values: Ring,
     permits: Permits,
+}
+
+// A bounded queue counts its free slots; an unbounded one has no room to count.
+pub enum Room {
+    Slots(u32),
+    Unbounded,
 }
 
 // What status tells, in its order: values queued, free room, live permits, operations with a grant, senders in line, and incoming operations
 // whose latest poll answered Pending.
 pub struct Counts {
     pub queued: u32,
-    pub free: u32,
+    pub free: Room,
     pub permits: u32,
     pub granted: u32,
     pub lined: u32,
@@ -60,6 +69,8 @@ pub enum What {
     NoHandle,
     InUse,
     NoRoom,
+    RingFull,
+    WrongKind,
 }
 
 pub struct Answer {
@@ -77,17 +88,18 @@ impl Queue {
     pub const LARGEST: u32 = 64;
 
     // A queue with nothing in it, these senders and these receivers.
-    fn blank(capacity: u32, handles: Handles) -> Queue
+    fn blank(capacity: u32, room: Room, handles: Handles) -> Queue
         requires { ⌜ HandlesSound handles ⌝ }
-        ensures { λ r. ⌜ Blank capacity handles r ⌝ }
+        ensures { λ r. ⌜ Blank capacity room handles r ⌝ }
     {
         let values = Ring::fresh();
         let permits = Permits::fresh();
+        let free = Available { room: room };
         let side = Side::fresh();
         Queue {
             outs: side,
             capacity: capacity,
-            free: capacity,
+            free: free,
             senders: handles,
             receivers: handles,
             ins: side,
@@ -98,11 +110,11 @@ impl Queue {
 
     // A new queue with sender 0 and receiver 0. Beside a refusal stands the fixed record: no live handle, and every count nought.
     pub fn make(capacity: u32) -> Turn
-        ensures { λ r. ⌜ Made capacity (r .answer) (r .queue) ⌝ }
+        ensures { λ r. ⌜ Made (byMake capacity) (r .answer) (r .queue) ⌝ }
     {
         let none = Handles::fresh();
         if capacity == 0 {
-            let queue = Queue::blank(0, none);
+            let queue = Queue::blank(0, Room::Slots(0), none);
             let answer = plain(What::BadCapacity);
             return Turn {
                 answer: answer,
@@ -110,7 +122,7 @@ impl Queue {
             };
         }
         if Queue::LARGEST < capacity {
-            let queue = Queue::blank(0, none);
+            let queue = Queue::blank(0, Room::Slots(0), none);
             let answer = plain(What::BadCapacity);
             return Turn {
                 answer: answer,
@@ -119,7 +131,22 @@ impl Queue {
         }
         let opened = none.open();
         let first = opened.handles;
-        let queue = Queue::blank(capacity, first);
+        let queue = Queue::blank(capacity, Room::Slots(capacity), first);
+        let answer = plain(What::Done);
+        Turn {
+            answer: answer,
+            queue: queue,
+        }
+    }
+
+    // A new unbounded queue with sender 0 and receiver 0. It holds what its ring holds: 64 values.
+    pub fn make_u() -> Turn
+        ensures { λ r. ⌜ Made byMakeU (r .answer) (r .queue) ⌝ }
+    {
+        let none = Handles::fresh();
+        let opened = none.open();
+        let first = opened.handles;
+        let queue = Queue::blank(Queue::LARGEST, Room::Unbounded, first);
         let answer = plain(What::Done);
         Turn {
             answer: answer,

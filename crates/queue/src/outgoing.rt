@@ -3,8 +3,10 @@
 use crate::Queue;
 use crate::Turn;
 use crate::What;
+use crate::available::Available;
 use crate::says::plain;
 use crate::says::say;
+use ring::Ring;
 use side::Cargo;
 use side::Entry;
 use side::OptToken;
@@ -15,20 +17,22 @@ use tables::Number;
 ghost use mathlib.Core.Path.{_≡_};
 ghost use Rattle.side.specs.declared.View.the-variants.{Found};
 ghost use Rattle.side.specs.Meaning.{stageOf};
+ghost use Rattle.model.specs.Queue as model;
 ghost use Rattle.model.specs.declared.Call.the-variants.{TrySend, TryRes, Reserve, Send, PollOut, CancelOut, PermitSend, PermitDrop};
-ghost use Rattle.queue.specs.Meaning.{queueOf, Shaped, Sound};
+ghost use Rattle.queue.specs.Meaning.{roomOf, queueOf, Shaped, Sound};
 ghost use Rattle.queue.specs.Promise.{Turned};
-ghost use Rattle.queue.specs.Steps.{opening, ready, isDone, sends, givenBy, withSlot, Comes};
+ghost use Rattle.queue.specs.Steps.{opening, ready, isDone, sends, reserves, givenBy, withSlot, Comes};
 
 // May an operation at this stage take a free slot? Not one that waits in line.
-fn is_ready(stage: Stage, free: u32) -> bool
-    ensures { λ r. ⌜ r ≡ ready (stageOf stage) free ⌝ }
+fn is_ready(stage: Stage, free: Available) -> bool
+    ensures { λ r. ⌜ r ≡ ready (stageOf stage) (roomOf (free .room)) ⌝ }
 {
+    let full = free.is_none();
     match stage {
         Stage::Waiting(_) => false,
-        Stage::Idle => free != 0,
-        Stage::Called => free != 0,
-        Stage::Void => free != 0,
+        Stage::Idle => !full,
+        Stage::Called => !full,
+        Stage::Void => !full,
     }
 }
 
@@ -36,13 +40,13 @@ fn is_ready(stage: Stage, free: u32) -> bool
 enum Outcome {
     NoHandle,
     Gone(Cargo),
-    Permit { owner: u8, free: u32 },
-    Push { value: u32, free: u32 },
+    Permit { owner: u8, free: Available },
+    Push { value: u32, free: Available },
     Stays,
 }
 
 // An operation that has its slot: a reserve comes to a permit of its sender, a send to a push.
-fn with_slot(cargo: Cargo, owner: u8, free: u32) -> Outcome
+fn with_slot(cargo: Cargo, owner: u8, free: Available) -> Outcome
     ensures { λ r. ⌜ r ≡ withSlot cargo owner free ⌝ }
 {
     match cargo {
@@ -57,7 +61,7 @@ fn with_slot(cargo: Cargo, owner: u8, free: u32) -> Outcome
     }
 }
 
-fn outcome_open(op: Entry, left: u32, free: u32) -> Outcome
+fn outcome_open(op: Entry, left: u32, free: Available) -> Outcome
     ensures { λ r. ⌜ Comes (Found op) left free r ⌝ }
 {
     let cargo = op.cargo;
@@ -70,13 +74,13 @@ fn outcome_open(op: Entry, left: u32, free: u32) -> Outcome
         return with_slot(cargo, owner, free);
     }
     if is_ready(stage, free) {
-        let rest = free - 1;
+        let rest = free.less();
         return with_slot(cargo, owner, rest);
     }
     Outcome::Stays
 }
 
-fn outcome_of(view: View, left: u32, free: u32) -> Outcome
+fn outcome_of(view: View, left: u32, free: Available) -> Outcome
     ensures { λ r. ⌜ Comes view left free r ⌝ }
 {
     match view {
@@ -103,6 +107,8 @@ fn is_done(what: What) -> bool
         What::NoHandle => false,
         What::InUse => false,
         What::NoRoom => false,
+        What::RingFull => false,
+        What::WrongKind => false,
     }
 }
 
@@ -130,12 +136,44 @@ impl Queue {
                 return What::Disconnected(cargo);
             }
             let free = self.free;
-            if free == 0 {
+            if free.is_none() {
                 return What::Full(cargo);
+            }
+            if self.ring_is_full() {
+                return What::RingFull;
             }
             return What::Done;
         }
         What::NoHandle
+    }
+
+    // Does an unbounded queue hold all that its ring holds?
+    fn ring_is_full(self) -> bool
+        requires { ⌜ Shaped self ⌝ }
+        ensures { λ r. ⌜ r ≡ model.ringFull (queueOf self) ⌝ }
+    {
+        let free = self.free;
+        if free.is_unbounded() {
+            let values = self.values;
+            let queued = values.len();
+            return Ring::LIMIT <= queued;
+        }
+        false
+    }
+
+    // What a try-res of this sender answers: on an unbounded queue nothing can be reserved.
+    fn reservable(self, s: u32) -> What
+        requires { ⌜ Shaped self ⌝ }
+        ensures { λ r. ⌜ r ≡ reserves s (queueOf self) ⌝ }
+    {
+        let senders = self.senders;
+        if senders.has(s) {
+            let free = self.free;
+            if free.is_unbounded() {
+                return What::WrongKind;
+            }
+        }
+        self.sendable(s, Cargo::Nothing)
     }
 
     // Decided first, changed in place, put together once: so the record is copied once into `self` and once into the answer.
@@ -146,7 +184,8 @@ impl Queue {
         let what = self.sendable(s, Cargo::Value(v));
         let mut woken = Woken::Nobody;
         if is_done(what) {
-            self.free = self.free - 1;
+            let free = self.free;
+            self.free = free.less();
             let values = self.values;
             self.values = values.push_back(v);
             let ins = self.ins;
@@ -169,9 +208,10 @@ impl Queue {
         requires { ⌜ Sound self ⌝ }
         ensures { λ r. ⌜ Turned self (TryRes s) (r .answer) (r .queue) ⌝ }
     {
-        let mut what = self.sendable(s, Cargo::Nothing);
+        let mut what = self.reservable(s);
         if is_done(what) {
-            self.free = self.free - 1;
+            let free = self.free;
+            self.free = free.less();
             let owner = s as u8;
             let permits = self.permits;
             let opened = permits.open(owner);
@@ -196,18 +236,23 @@ impl Queue {
         let mut what = What::NoHandle;
         let senders = self.senders;
         if senders.has(s) {
-            let outs = self.outs;
-            let owner = s as u8;
-            let opened = outs.open(owner, cargo);
-            let number = opened.number;
-            match number {
-                Number::NoRoom => {
-                    what = What::NoRoom;
-                }
-                Number::Given(n) => {
-                    let side = opened.side;
-                    self.outs = side;
-                    what = What::Given(n);
+            let free = self.free;
+            if free.is_unbounded() {
+                what = What::WrongKind;
+            } else {
+                let outs = self.outs;
+                let owner = s as u8;
+                let opened = outs.open(owner, cargo);
+                let number = opened.number;
+                match number {
+                    Number::NoRoom => {
+                        what = What::NoRoom;
+                    }
+                    Number::Given(n) => {
+                        let side = opened.side;
+                        self.outs = side;
+                        what = What::Given(n);
+                    }
                 }
             }
         }
@@ -312,7 +357,8 @@ impl Queue {
                     let receivers = self.receivers;
                     let left = receivers.count();
                     if left == 0 {} else if rest.line_is_empty() {
-                        self.free = self.free + 1;
+                        let free = self.free;
+                        self.free = free.more();
                     } else {
                         let called = rest.call_first();
                         woken = called.woken;
@@ -380,7 +426,8 @@ impl Queue {
             if left == 0 {} else {
                 let outs = self.outs;
                 if outs.line_is_empty() {
-                    self.free = self.free + 1;
+                    let free = self.free;
+                    self.free = free.more();
                 } else {
                     let called = outs.call_first();
                     woken = called.woken;

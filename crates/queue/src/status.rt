@@ -24,9 +24,11 @@ impl Queue {
         let lined = outs.in_line();
         let ins = self.ins;
         let waiting = ins.polled();
+        let free = self.free;
+        let room = free.room;
         Counts {
             queued: queued,
-            free: self.free,
+            free: room,
             permits: permits,
             granted: granted,
             lined: lined,

@@ -14,8 +14,11 @@ fn lines() -> Vec<Vec<u8>> {
         "make\t1", "make\01", "make 1\0", "\0make 1", "make 01", "make 00", "make +1", "make -1", "make 1.0", "make 0x1", "make 1e0",
         "make 1,2", "make one", "make 1 2", "make 1 2 3", "make 0", "make 65", "make 4294967295", "make 4294967296", "make 4294967297",
         "make 18446744073709551616", "make 18446744073709551617", "make 99999999999999999999", "Make 1", "MAKE 1", "makes 1", "mak 1",
-        "make1", "make-u", "push 0 1", "push 0", "push", "release 0", "release", "sweep 0", "edit 0 0 0 0 0", "quit", "help", "#",
-        "# status", "status 0", "status ", " status", "status\r", "Status", "statuss", "statu", "status status", "try-send", "try-send ",
+        "make1", "make-u ", " make-u", "make-u  ", "make-u 0", "make-u 1", "make-u 8", "make-u 64", "make-u 65", "make-u 1 1", "make-u 01",
+        "make-u 4294967296", "make-u x", "make-u -", "make-u make-u", "make-u\r", "make-u\t", "make-u\t1", "make-u\0", "\0make-u", "make-u,",
+        "Make-u", "make-U", "MAKE-U", "make-uu", "make-", "make--u", "make-u-", "make-u0", "make-u1", "make-b", "make_u", "makeu", "make u",
+        "make -u", "make- u", "mmake-u", "ake-u", "make\u{2010}u", "push 0 1", "push 0", "push", "release 0", "release", "sweep 0",
+        "edit 0 0 0 0 0", "quit", "help", "#", "# status", "status 0", "status ", " status", "status\r", "Status", "statuss", "statu", "status status", "try-send", "try-send ",
         "try-send 0", "try-send 0 ", "try-send  0 7", "try-send 0  7", "try-send 0 7 ", "try-send 0 7 8", "try-send 0 7\r",
         "try-send 0 07", "try-send 00 7", "try-send 0 +7", "try-send 0 -7", "try-send -0 7", "try-send 0 -", "try-send - 7",
         "try-send 0 4294967295", "try-send 0 4294967296", "try-send 0 4294967303", "try-send 4294967296 7",
@@ -50,6 +53,7 @@ fn lines() -> Vec<Vec<u8>> {
         lines.push(vec![b'0'; length]);
         lines.push([&b"try-send 0 "[..], &vec![b'0'; length], b"7"].concat());
         lines.push([&b"try-recv 0"[..], &vec![b' '; length]].concat());
+        lines.push([&b"make-u"[..], &vec![b' '; length]].concat());
         lines.push([&vec![b' '; length][..], b"try-recv 0"].concat());
         lines.push([&vec![b'x'; length][..], b"try-recv 0"].concat());
         lines.push([&vec![b'\0'; length][..], b"\r"].concat());
@@ -70,10 +74,17 @@ pub fn before_make(lists: &mut Lists, longest: usize) -> Going {
     lists.end_history()
 }
 
+/// A queue of each kind for damaged lines.
+pub const MAKES: &[Call] = &[Call::Make(3), Call::MakeU];
+
 /// Every such line of up to `longest` bytes on a queue that it would change if it were read, then what that holds.
-pub fn damaged(lists: &mut Lists, longest: usize) -> Going {
+pub fn damaged(lists: &mut Lists, makes: &[Call], longest: usize) -> Going {
+    makes.iter().try_for_each(|&make| damaged_after(lists, make, longest))
+}
+
+fn damaged_after(lists: &mut Lists, make: Call, longest: usize) -> Going {
     for line in lines_up_to(longest) {
-        lists.call(Call::Make(3));
+        lists.call(make);
         lists.call(Call::TrySend(0, 1));
         lists.line(&line);
         lists.call(Call::Status);
@@ -95,6 +106,10 @@ pub fn ends(lists: &mut Lists) -> Going {
         "status\n", "status\nmake 1\nstatus", "make 0\nstatus\n", "make 65\ntry-send 0 1\nmake 64\ntry-send 0 1\nmake 0\nstatus",
         "make 1\ntry-send 0 1\nmake 65\ntry-recv 0\nmake 1\ntry-recv 0", "drop-s 0\ndrop-r 0\nclone-s 0\n", "make 4294967296\nstatus",
         "make 1\ntry-send 0 4294967295", "make 1\ntry-send 0 4294967296", "make 1\ntry-send 0 42949672", "make 1\ndrop-s", "\nmake 1",
+        "make-u", "make-u\n", "make-u\r\nstatus", "make-u ", "make-u 1", "make-u 1\nstatus", "make-", "make-\nstatus", "make-u\nstatus",
+        "\nmake-u\nstatus\n", "status\nmake-u\nstatus", "make-u 8\nmake-u\nstatus", "make 1\ntry-send 0 1\nmake-u\nstatus\ntry-recv 0",
+        "make-u\ntry-send 0 1\nmake 65\nstatus\nmake 2\nstatus\ntry-recv 0", "make-u\ntry-send 0 1\nmake-u\ntry-recv 0\nstatus",
+        "make 1\ntry-res 0\nmake-u\npermit-drop 0\nstatus\nmake\nstatus", "make-u\ntry-send 0 4294967295\ntry-recv 0", "make-u\ntry-send 0",
     ];
     for text in wholes {
         lists.whole(text.as_bytes())?;

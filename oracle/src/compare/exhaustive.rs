@@ -1,4 +1,4 @@
-//! Every history of some length, and every call on every state within some calls of make.
+//! Every history of some length, and every call on every state within some calls of make, on queues of both kinds.
 
 use std::collections::HashSet;
 use std::hash::DefaultHasher;
@@ -19,9 +19,14 @@ struct Alphabet {
 }
 
 impl Alphabet {
+    /// Calls parted by commas. `5 values` stands for five try-sends of sender 0, their values counted from 1.
     fn new(text: &str) -> Self {
-        let read = |line: &str| calls::read(line.trim().as_bytes()).unwrap_or_else(|| panic!("no call: {line}"));
-        let calls: Vec<Call> = text.split(',').map(read).collect();
+        let read = |line: &str| calls::read(line.as_bytes()).unwrap_or_else(|| panic!("no call: {line}"));
+        let read_part = |part: &str| match part.strip_suffix(" values").map(str::parse::<u32>) {
+            Some(Ok(count)) => (1..=count).map(|value| Call::TrySend(0, value)).collect(),
+            _ => vec![read(part)],
+        };
+        let calls: Vec<Call> = text.split(',').flat_map(|part| read_part(part.trim())).collect();
         let lines = calls.iter().map(|call| call.to_string().into_bytes()).collect();
         Alphabet { calls, lines }
     }
@@ -32,9 +37,19 @@ impl Alphabet {
         }
     }
 
+    fn write_all(&self, lists: &mut Lists) {
+        self.lines.iter().for_each(|line| lists.line(line));
+    }
+
     fn replay(&self, history: &[u8], machine: &mut Machine) {
         for &index in history {
             machine.answer(self.calls[index as usize]);
+        }
+    }
+
+    fn replay_all(&self, machine: &mut Machine) {
+        for &call in &self.calls {
+            machine.answer(call);
         }
     }
 }
@@ -52,8 +67,8 @@ const LATER: &str = "try-send 0 7, try-recv 0, try-res 0, permit-drop 0, permit-
     poll-in 1 151, poll-in 2 152, poll-in 3 153, poll-in 1 51, cancel-in 0, cancel-in 1, cancel-in 2, drop-s 0, drop-r 0,
     drop-s 1, drop-r 1, send 0 8, status";
 
-/// Deep states to begin from.
-const DEEP: [&str; 8] = [
+/// Deep states of bounded queues to begin from.
+pub const DEEP: &[&str] = &[
     // Three senders in line behind a full queue, a send between two reserves.
     "make 1, try-send 0 1, reserve 0, send 0 2, reserve 0, poll-out 0 90, poll-out 1 91, poll-out 2 92",
     // Three receivers in line.
@@ -73,40 +88,58 @@ const DEEP: [&str; 8] = [
     "make 1, clone-s 0, clone-r 0, recv 0, recv 1, recv 0, poll-in 0 50, poll-in 1 51, poll-in 2 52",
 ];
 
-/// Every valid history of exactly `length` calls after make. Shorter ones are beginnings of these (status is always
+/// Deep states of unbounded queues.
+pub const DEEP_UNBOUNDED: &[&str] = &[
+    // Three receivers in line.
+    "make-u, recv 0, recv 0, recv 0, poll-in 0 50, poll-in 1 51, poll-in 2 52",
+    // One receiver notified, two in line, the value still there.
+    "make-u, recv 0, recv 0, recv 0, poll-in 0 50, poll-in 1 51, poll-in 2 52, try-send 0 1",
+    // Two receivers notified, one in line, one value taken by another.
+    "make-u, recv 0, recv 0, recv 0, poll-in 0 50, poll-in 1 51, poll-in 2 52, try-send 0 1, try-send 0 2, try-recv 0",
+    // Two receivers notified, one in line, both values taken by others.
+    "make-u, recv 0, recv 0, recv 0, poll-in 0 50, poll-in 1 51, poll-in 2 52, 2 values, try-recv 0, try-recv 0",
+    // Receivers in line with two senders, so that the first that leaves is not the last.
+    "make-u, clone-s 0, clone-r 0, recv 0, recv 1, recv 0, poll-in 0 50, poll-in 1 51, poll-in 2 52",
+    // No sender left, values still there, the receivers' line emptied.
+    "make-u, clone-r 0, recv 0, recv 1, recv 0, poll-in 0 50, poll-in 1 51, poll-in 2 52, 4 values, drop-s 0",
+];
+
+/// An unbounded queue about to be full, the ring's start not at its beginning, receivers notified and late.
+pub const NEARLY_FULL: &[&str] = &[
+    "make-u, 63 values",
+    "make-u, clone-r 0, recv 0, recv 1, poll-in 0 50, poll-in 1 51, 9 values, try-recv 0, try-recv 0, try-recv 0, 57 values",
+];
+
+/// Every valid history of exactly `length` calls after a make. Shorter ones are beginnings of these (status is always
 /// valid, so each goes on), and a beginning's answers are compared with the whole.
-pub fn histories(lists: &mut Lists, capacity: u32, length: usize) -> Going {
-    let start = Alphabet::new(&format!("make {capacity}"));
-    extend_start(lists, &start, &Alphabet::new(FEW), length)
+pub fn histories(lists: &mut Lists, make: &str, length: usize) -> Going {
+    Extension { start: Alphabet::new(make), alphabet: Alphabet::new(FEW) }.all(lists, length)
 }
 
-/// The same from each of the deep states.
-pub fn deep_histories(lists: &mut Lists, length: usize) -> Going {
-    for start in DEEP {
-        extend_start(lists, &Alphabet::new(start), &Alphabet::new(LATER), length)?;
+/// The same from each of some deep states.
+pub fn deep_histories(lists: &mut Lists, starts: &[&str], length: usize) -> Going {
+    for start in starts {
+        Extension { start: Alphabet::new(start), alphabet: Alphabet::new(LATER) }.all(lists, length)?;
     }
     Ok(())
 }
 
-fn extend_start(lists: &mut Lists, start: &Alphabet, alphabet: &Alphabet, length: usize) -> Going {
-    let mut machine = Machine::new();
-    let whole: Vec<u8> = (0..start.calls.len() as u8).collect();
-    start.replay(&whole, &mut machine);
-    Extension { start, whole: &whole, alphabet }.extend(lists, &mut machine, &mut Vec::new(), length)
+struct Extension {
+    start: Alphabet,
+    alphabet: Alphabet,
 }
 
-struct Extension<'a> {
-    start: &'a Alphabet,
-    /// The start's calls, all of them in order.
-    whole: &'a [u8],
-    alphabet: &'a Alphabet,
-}
+impl Extension {
+    fn all(&self, lists: &mut Lists, length: usize) -> Going {
+        let mut machine = Machine::new();
+        self.start.replay_all(&mut machine);
+        self.extend(lists, &mut machine, &mut Vec::new(), length)
+    }
 
-impl Extension<'_> {
     /// The machine stands at the history's end and is left anywhere.
     fn extend(&self, lists: &mut Lists, machine: &mut Machine, history: &mut Vec<u8>, left: usize) -> Going {
         if left == 0 {
-            self.start.write(self.whole, lists);
+            self.start.write_all(lists);
             self.alphabet.write(history, lists);
             return lists.end_history();
         }
@@ -118,7 +151,7 @@ impl Extension<'_> {
             history.push(index as u8);
             self.extend(lists, machine, history, left - 1)?;
             history.pop();
-            self.start.replay(self.whole, machine);
+            self.start.replay_all(machine);
             self.alphabet.replay(history, machine);
         }
         Ok(())
@@ -148,15 +181,15 @@ const SHOW: [&str; 3] = [
     "status, drop-r 0, drop-r 1, drop-s 0, drop-s 1, status",
 ];
 
-/// Every probing call on every state that the building calls reach within `depth` calls of make. States are told
+/// Every probing call on every state that the building calls reach within `depth` calls of the start. States are told
 /// apart by what `Machine::describe` writes down; the first history found to a state stands for it.
-pub fn states(lists: &mut Lists, capacity: u32, depth: usize) -> Going {
-    let make = Call::Make(capacity);
+pub fn states(lists: &mut Lists, start: &str, depth: usize) -> Going {
+    let start = Alphabet::new(start);
     let build = Alphabet::new(BUILD);
     let probe = Alphabet::new(PROBE);
     let shows = SHOW.map(Alphabet::new);
     let mut machine = Machine::new();
-    machine.answer(make);
+    start.replay_all(&mut machine);
     let mut seen = HashSet::from([description(&machine)]);
     let mut level: Vec<Box<[u8]>> = vec![Box::new([])];
     let mut turn = 0;
@@ -164,13 +197,13 @@ pub fn states(lists: &mut Lists, capacity: u32, depth: usize) -> Going {
         let mut next_level = vec![];
         for history in &level {
             let return_to_state = |machine: &mut Machine| {
-                machine.answer(make);
+                start.replay_all(machine);
                 build.replay(history, machine);
             };
             return_to_state(&mut machine);
             // The refused calls change nothing, so they all stand in one history and show it of each other.
             let mut good = vec![];
-            lists.call(make);
+            start.write_all(lists);
             build.write(history, lists);
             for (index, &call) in probe.calls.iter().enumerate() {
                 if machine.answer(call).code.is_refusal() {
@@ -183,7 +216,7 @@ pub fn states(lists: &mut Lists, capacity: u32, depth: usize) -> Going {
             lists.call(Call::Status);
             lists.end_history()?;
             for index in good {
-                lists.call(make);
+                start.write_all(lists);
                 build.write(history, lists);
                 lists.line(&probe.lines[index]);
                 turn += 1;
@@ -208,6 +241,11 @@ pub fn states(lists: &mut Lists, capacity: u32, depth: usize) -> Going {
         level = next_level;
     }
     Ok(())
+}
+
+/// The same from each of the unbounded queues that are nearly full.
+pub fn nearly_full_states(lists: &mut Lists, depth: usize) -> Going {
+    NEARLY_FULL.iter().try_for_each(|start| states(lists, start, depth))
 }
 
 fn description(machine: &Machine) -> u64 {

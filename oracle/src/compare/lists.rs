@@ -1,5 +1,8 @@
 //! Call lists as they are made: lines gathered until a list is long enough, then handed to whoever wants it.
 
+use std::ops::AddAssign;
+
+use oracle::calls;
 use oracle::calls::Call;
 
 /// Whoever takes the lists wants no more of them.
@@ -65,4 +68,42 @@ impl<'a> Lists<'a> {
     pub fn histories(&self) -> u64 {
         self.histories
     }
+}
+
+/// Lines of a list by the kind of queue that they meet, a make counted with the queue it begins.
+#[derive(Clone, Copy, Default)]
+pub struct ByKind {
+    pub bounded: u64,
+    pub unbounded: u64,
+    /// Before the first good make.
+    pub neither: u64,
+}
+
+impl AddAssign for ByKind {
+    fn add_assign(&mut self, other: Self) {
+        self.bounded += other.bounded;
+        self.unbounded += other.unbounded;
+        self.neither += other.neither;
+    }
+}
+
+pub fn count_by_kind(list: &[u8]) -> ByKind {
+    let mut counts = ByKind::default();
+    let mut unbounded = None;
+    for line in list.split_inclusive(|&byte| byte == b'\n') {
+        // Few lines begin so; the others need not be read.
+        if line.starts_with(b"make") {
+            match calls::read(line.strip_suffix(b"\n").unwrap_or(line)) {
+                Some(Call::Make(1..=64)) => unbounded = Some(false),
+                Some(Call::MakeU) => unbounded = Some(true),
+                _ => {}
+            }
+        }
+        *match unbounded {
+            Some(false) => &mut counts.bounded,
+            Some(true) => &mut counts.unbounded,
+            None => &mut counts.neither,
+        } += 1;
+    }
+    counts
 }

@@ -20,17 +20,19 @@ use std::process::ExitCode;
 
 use lists::Lists;
 use lists::Stop;
+use oracle::calls::Call;
 use rng::Rng;
+use walks::Kinds;
 
 const USAGE: &str = "\
 usage: compare [--program PATH] [--lines N] [--seed S] [--short]
            compares PATH (target/bin/calls) with the crate: the short lists, or all lists and then random
-           walks until N lines were compared (100000000)
+           walks until N lines were compared (130000000)
        compare --slips [NAME]
            builds a copy of the oracle with each planted slip and looks whether the short lists see it
        compare --store
            makes the lists under lists/ anew
-       compare --gen KIND [--seed S] [--lines N] [--capacity C] [--length L]
+       compare --gen KIND [--seed S] [--lines N] [--capacity C | --unbounded] [--length L]
            prints lists: histories, deep, states, full, walks, damaged
 ";
 
@@ -45,7 +47,8 @@ pub struct Options {
     pub only: Option<String>,
     pub store: bool,
     pub gen_kind: Option<String>,
-    pub capacity: u32,
+    /// The make that generated lists begin with.
+    pub make: Call,
     pub length: usize,
 }
 
@@ -60,7 +63,7 @@ fn read_options() -> Result<Options, String> {
         only: None,
         store: false,
         gen_kind: None,
-        capacity: 1,
+        make: Call::Make(1),
         length: 4,
     };
     let mut words = std::env::args().skip(1);
@@ -72,7 +75,8 @@ fn read_options() -> Result<Options, String> {
             "--program" => options.program = Some(next()?.into()),
             "--lines" => options.lines = Some(number(next()?)?),
             "--seed" => options.seed = number(next()?)?,
-            "--capacity" => options.capacity = number(next()?)? as u32,
+            "--capacity" => options.make = Call::Make(number(next()?)? as u32),
+            "--unbounded" => options.make = Call::MakeU,
             "--length" => options.length = number(next()?)? as usize,
             "--gen" => options.gen_kind = Some(next()?),
             "--short" => options.short = true,
@@ -122,13 +126,18 @@ fn print_lists(kind: &str, options: &Options) -> io::Result<()> {
         })
     };
     let mut lists = Lists::new(10_000, &mut take);
+    let make = options.make.to_string();
+    let (deep, kinds) = match options.make {
+        Call::MakeU => (exhaustive::DEEP_UNBOUNDED, Kinds::Unbounded),
+        _ => (exhaustive::DEEP, Kinds::Both),
+    };
     let going = match kind {
-        "histories" => exhaustive::histories(&mut lists, options.capacity, options.length),
-        "deep" => exhaustive::deep_histories(&mut lists, options.length),
-        "states" => exhaustive::states(&mut lists, options.capacity, options.length),
-        "walks" => walks::walks(&mut lists, &mut Rng::new(options.seed), options.lines.unwrap_or(1000)),
-        "full" => full::full_tables(&mut lists, full::CAPACITIES),
-        "damaged" => damage::damaged(&mut lists, usize::MAX),
+        "histories" => exhaustive::histories(&mut lists, &make, options.length),
+        "deep" => exhaustive::deep_histories(&mut lists, deep, options.length),
+        "states" => exhaustive::states(&mut lists, &make, options.length),
+        "walks" => walks::walks(&mut lists, &mut Rng::new(options.seed), kinds, options.lines.unwrap_or(1000)),
+        "full" => full::full_tables(&mut lists, full::MAKES),
+        "damaged" => damage::damaged(&mut lists, damage::MAKES, usize::MAX),
         _ => return Err(io::Error::other(format!("there are no lists of kind {kind}"))),
     };
     let _ = going.and_then(|()| lists.end_list());

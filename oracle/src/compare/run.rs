@@ -13,6 +13,8 @@ use crate::Options;
 use crate::damage;
 use crate::exhaustive;
 use crate::full;
+use crate::lists;
+use crate::lists::ByKind;
 use crate::lists::Going;
 use crate::lists::Lists;
 use crate::lists::Stop;
@@ -20,17 +22,20 @@ use crate::program;
 use crate::rng::Rng;
 use crate::shrink;
 use crate::walks;
+use crate::walks::Kinds;
 
 /// How far each kind of list goes.
 pub struct Plan {
     /// Lines of a list: a program is started anew for each.
     pub longest: u64,
-    /// Capacity and length of exhaustive histories.
-    pub histories: &'static [(u32, usize)],
+    /// Make and length of exhaustive histories.
+    pub histories: &'static [(&'static str, usize)],
     /// Length of exhaustive histories from deep states.
     pub deep: usize,
-    /// Capacity and depth of the states that every call is tried on.
-    pub states: &'static [(u32, usize)],
+    /// Length of exhaustive histories from unbounded queues that are nearly full, and depth of the states there.
+    pub nearly_full: (usize, usize),
+    /// Make and depth of the states that every call is tried on.
+    pub states: &'static [(&'static str, usize)],
     /// Lines of random walks at least.
     pub walks: u64,
     /// Lines of one list that is longer than any other.
@@ -40,9 +45,10 @@ pub struct Plan {
 
 pub const SHORT: Plan = Plan {
     longest: 50_000,
-    histories: &[(1, 4), (2, 4)],
+    histories: &[("make 1", 4), ("make 2", 4), ("make-u", 4)],
     deep: 3,
-    states: &[(1, 4), (2, 4)],
+    nearly_full: (2, 1),
+    states: &[("make 1", 4), ("make 2", 4), ("make-u", 5)],
     walks: 1_000_000,
     long_list: 300_000,
     time_limit: Duration::from_secs(60),
@@ -50,15 +56,16 @@ pub const SHORT: Plan = Plan {
 
 const FULL: Plan = Plan {
     longest: 200_000,
-    histories: &[(1, 6), (2, 5)],
+    histories: &[("make 1", 6), ("make 2", 5), ("make-u", 6)],
     deep: 4,
-    states: &[(1, 7), (2, 6)],
+    nearly_full: (3, 3),
+    states: &[("make 1", 7), ("make 2", 6), ("make-u", 8)],
     walks: 10_000_000,
     long_list: 3_000_000,
     time_limit: Duration::from_secs(600),
 };
 
-const FULL_LINES: u64 = 100_000_000;
+const FULL_LINES: u64 = 130_000_000;
 
 pub struct Difference {
     pub list: Vec<u8>,
@@ -77,6 +84,7 @@ pub struct Comparison<'a> {
     begun: Instant,
     shown: Instant,
     pub lines: u64,
+    by_kind: ByKind,
     pub lists: u64,
     pub histories: u64,
     pub difference: Option<Difference>,
@@ -93,6 +101,7 @@ impl<'a> Comparison<'a> {
             begun: Instant::now(),
             shown: Instant::now(),
             lines: 0,
+            by_kind: ByKind::default(),
             lists: 0,
             histories: 0,
             difference: None,
@@ -123,6 +132,7 @@ impl<'a> Comparison<'a> {
             return Err(Stop);
         }
         self.lines += lines;
+        self.by_kind += lists::count_by_kind(list);
         if self.progress && io::stderr().is_terminal() && self.shown.elapsed() > Duration::from_millis(300) {
             self.shown = Instant::now();
             eprint!("\r{:<78}\r", self.state());
@@ -167,22 +177,31 @@ impl<'a> Comparison<'a> {
         let early = plan.walks / 2;
         self.part("unusual beginnings and ends", plan.longest, damage::ends)?;
         self.part("damaged lines before any make", plan.longest, |lists| damage::before_make(lists, usize::MAX))?;
-        self.part("damaged lines", plan.longest, |lists| damage::damaged(lists, usize::MAX))?;
-        self.part("full tables", plan.longest, |lists| full::full_tables(lists, full::CAPACITIES))?;
-        self.part("random walks", plan.longest, |lists| walks::walks(lists, &mut rng, early))?;
-        for &(capacity, length) in plan.histories {
-            let name = format!("every valid history of up to {length} calls at capacity {capacity}");
-            self.part(&name, plan.longest, |lists| exhaustive::histories(lists, capacity, length))?;
+        self.part("damaged lines", plan.longest, |lists| damage::damaged(lists, damage::MAKES, usize::MAX))?;
+        self.part("full tables", plan.longest, |lists| full::full_tables(lists, full::MAKES))?;
+        self.part("random walks", plan.longest, |lists| walks::walks(lists, &mut rng, Kinds::Both, early))?;
+        for &(make, length) in plan.histories {
+            let name = format!("every valid history of up to {length} calls after {make}");
+            self.part(&name, plan.longest, |lists| exhaustive::histories(lists, make, length))?;
         }
-        let name = format!("every valid history of up to {} calls from eight deep states", plan.deep);
-        self.part(&name, plan.longest, |lists| exhaustive::deep_histories(lists, plan.deep))?;
-        for &(capacity, depth) in plan.states {
-            let name = format!("every call on every state within {depth} calls of make {capacity}");
-            self.part(&name, plan.longest, |lists| exhaustive::states(lists, capacity, depth))?;
+        self.deep("deep bounded", plan.longest, exhaustive::DEEP, plan.deep)?;
+        self.deep("deep unbounded", plan.longest, exhaustive::DEEP_UNBOUNDED, plan.deep)?;
+        let (length, depth) = plan.nearly_full;
+        self.deep("nearly full", plan.longest, exhaustive::NEARLY_FULL, length)?;
+        for &(make, depth) in plan.states {
+            let name = format!("every call on every state within {depth} calls of {make}");
+            self.part(&name, plan.longest, |lists| exhaustive::states(lists, make, depth))?;
         }
-        self.part("one long list", u64::MAX, |lists| walks::walks(lists, &mut rng, plan.long_list))?;
+        let name = format!("every call on every state within {depth} calls of nearly full ones");
+        self.part(&name, plan.longest, |lists| exhaustive::nearly_full_states(lists, depth))?;
+        self.part("one long list", u64::MAX, |lists| walks::walks(lists, &mut rng, Kinds::Both, plan.long_list))?;
         let rest = lines.saturating_sub(self.lines).max(plan.walks - early);
-        self.part("more random walks", plan.longest, |lists| walks::walks(lists, &mut rng, rest))
+        self.part("more random walks", plan.longest, |lists| walks::walks(lists, &mut rng, Kinds::Both, rest))
+    }
+
+    fn deep(&mut self, kind: &str, longest: u64, starts: &[&str], length: usize) -> Going {
+        let name = format!("every valid history of up to {length} calls from {} {kind} states", starts.len());
+        self.part(&name, longest, |lists| exhaustive::deep_histories(lists, starts, length))
     }
 
     /// The stored lists: their answers must be the crate's, and the program's.
@@ -248,6 +267,12 @@ pub fn run(options: &Options) -> io::Result<bool> {
         report(&comparison, difference, &program, options)?;
         return Ok(false);
     }
+    println!(
+        "{} lines were of bounded histories, {} of unbounded ones, {} came before any make",
+        grouped(comparison.by_kind.bounded),
+        grouped(comparison.by_kind.unbounded),
+        grouped(comparison.by_kind.neither)
+    );
     println!(
         "compared {} lines in {} histories ({} lists), seed {}, {:.0} s: no difference",
         grouped(comparison.lines),

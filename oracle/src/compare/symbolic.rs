@@ -33,7 +33,7 @@ fn named(call: &mut Call) -> Option<(Kind, &mut u32)> {
         Call::PollOut(n, _) | Call::CancelOut(n) => (Kind::Outgoing, n),
         Call::PollIn(n, _) | Call::CancelIn(n) => (Kind::Incoming, n),
         Call::PermitSend(n, _) | Call::PermitDrop(n) => (Kind::Permit, n),
-        Call::Make(_) | Call::Status => return None,
+        Call::Make(_) | Call::MakeU | Call::Status => return None,
     })
 }
 
@@ -72,7 +72,7 @@ impl Numbers {
             self.numbers.insert((kind, place), number);
         };
         match (call, answer.code, answer.field) {
-            (Call::Make(_), Code::Done, _) => {
+            (Call::Make(_) | Call::MakeU, Code::Done, _) => {
                 open(Kind::Sender, 0);
                 open(Kind::Receiver, 0);
             }

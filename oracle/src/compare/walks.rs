@@ -58,7 +58,7 @@ const CHOICES: [Choice; 17] = [
     Choice::Status,
 ];
 
-/// What a walk does for a while. A walk changes from one of these to another every few dozen calls.
+/// What a walk on a bounded queue does for a while. A walk changes from one of these to another every few dozen calls.
 #[rustfmt::skip]
 const MOODS: [Weights; 10] = [
     // cs cr ts tr re se rc po co ps pd tv pi ci ds dr st
@@ -73,6 +73,31 @@ const MOODS: [Weights; 10] = [
     [   0, 0, 4, 2, 2, 2, 2, 8,16, 8,12, 4, 8,16,20, 1, 3], // senders leave
     [   0, 0, 4, 2, 2, 2, 2, 8,16, 8,12, 4, 8,16, 1,20, 3], // receivers leave
 ];
+
+/// The same for an unbounded queue, which has no reservations: what belongs to those is refused and comes seldom.
+#[rustfmt::skip]
+const MOODS_UNBOUNDED: [Weights; 10] = [
+    // cs cr ts tr re se rc po co ps pd tv pi ci ds dr st
+    [   2, 2,10, 1, 1, 1,10, 1, 1, 1, 1,10,14, 4, 1, 1, 3], // of everything
+    [   0, 0,60, 1, 0, 1, 1, 0, 0, 0, 0, 1, 1, 1, 0, 0, 1], // values are given, up to 64 and over
+    [   0, 0,20, 1, 1, 1, 3, 0, 0, 0, 0,16, 6, 2, 0, 0, 2], // about as many are given as taken
+    [   0, 0, 2, 0, 1, 0, 6, 0, 0, 0, 0,30,20, 1, 0, 0, 2], // values are taken until none is left
+    [   0, 1, 1, 0, 0, 0,20, 0, 0, 0, 0, 6,30, 1, 0, 0, 2], // a long line of receivers
+    [   0, 0, 8, 0, 1, 0,14, 0, 0, 0, 0,10,20,12, 0, 0, 2], // notified receivers leave, or come too late
+    [   0, 0, 2, 0, 0, 0, 6, 0, 0, 0, 0, 4,40, 1, 0, 0, 2], // tokens are refreshed
+    [  20,20, 6, 2, 2, 2,16, 1, 1, 1, 1, 8,14, 1, 4, 4, 2], // tables fill
+    [   1, 0, 6, 1, 1, 1, 8, 1, 1, 1, 1, 6,14, 4,16, 1, 3], // senders leave
+    [   0, 1, 8, 1, 1, 1, 4, 1, 1, 1, 1, 6,10,16, 1,20, 3], // receivers leave
+];
+
+/// Which queues walks begin.
+#[derive(Clone, Copy)]
+pub enum Kinds {
+    Bounded,
+    Unbounded,
+    /// An unbounded one in a third of the walks.
+    Both,
+}
 
 #[derive(Clone, Copy)]
 enum Tokens {
@@ -89,6 +114,7 @@ enum Tokens {
 struct Walk<'a> {
     rng: &'a mut Rng,
     machine: Machine,
+    unbounded: bool,
     tokens: Tokens,
     /// Of a hundred numbers, how many are chosen with no regard to what is live.
     stray: u32,
@@ -147,23 +173,33 @@ impl Side {
 }
 
 /// Walks of all kinds, about `lines` lines in all.
-pub fn walks(lists: &mut Lists, rng: &mut Rng, lines: u64) -> Going {
+pub fn walks(lists: &mut Lists, rng: &mut Rng, kinds: Kinds, lines: u64) -> Going {
     let mut left = lines as i64;
     while left > 0 {
-        left -= walk(lists, rng)? as i64;
+        let unbounded = match kinds {
+            Kinds::Bounded => false,
+            Kinds::Unbounded => true,
+            Kinds::Both => rng.below(3) == 0,
+        };
+        left -= walk(lists, rng, unbounded)? as i64;
     }
     Ok(())
 }
 
-fn walk(lists: &mut Lists, rng: &mut Rng) -> Result<u64, crate::lists::Stop> {
-    let capacity = match rng.below(20) {
+fn capacity(rng: &mut Rng) -> u32 {
+    match rng.below(20) {
         0..=6 => 1,
         7..=11 => 2,
         12..=15 => 3 + rng.below(3),
         16..=17 => 6 + rng.below(11),
         18 => 17 + rng.below(48),
         _ => 64,
-    };
+    }
+}
+
+fn walk(lists: &mut Lists, rng: &mut Rng, unbounded: bool) -> Result<u64, crate::lists::Stop> {
+    let make = if unbounded { Call::MakeU } else { Call::Make(capacity(rng)) };
+    let moods: &[Weights] = if unbounded { &MOODS_UNBOUNDED } else { &MOODS };
     let length = match rng.below(50) {
         0 => 3000,
         1..=6 => 200 + rng.below(600),
@@ -175,13 +211,14 @@ fn walk(lists: &mut Lists, rng: &mut Rng) -> Result<u64, crate::lists::Stop> {
     let damaged = *rng.pick(&[0, 0, 0, 0, 0, 0, 2, 30]);
     let fresh = rng.below(3) * 1000;
     let machine = Machine::new();
-    let mut walk = Walk { rng, machine, tokens, stray, damaged, fresh, out: Side::default(), inn: Side::default() };
-    walk.step(lists, Call::Make(capacity));
-    let mut mood = *walk.rng.pick(&MOODS);
-    let mut steps = 0;
+    let (out, inn) = (Side::default(), Side::default());
+    let mut walk = Walk { rng, machine, unbounded, tokens, stray, damaged, fresh, out, inn };
+    walk.step(lists, make);
+    let mut mood = *walk.rng.pick(moods);
+    let mut steps = if unbounded { walk.fill(lists) } else { 0 };
     while steps < length && !walk.is_over() {
         if walk.rng.below(30) == 0 {
-            mood = *walk.rng.pick(&MOODS);
+            mood = *walk.rng.pick(moods);
         }
         let call = walk.choose(&mood);
         walk.step(lists, call);
@@ -201,6 +238,16 @@ impl Walk<'_> {
             (false, false) => false,
             _ => self.rng.below(40) == 0,
         }
+    }
+
+    /// Some walks begin where the 64 values of an unbounded queue are about to be reached. How many steps that took.
+    fn fill(&mut self, lists: &mut Lists) -> u32 {
+        let values = if self.rng.below(8) == 0 { 58 + self.rng.below(9) } else { 0 };
+        for _ in 0..values {
+            let value = self.value();
+            self.step(lists, Call::TrySend(0, value));
+        }
+        values
     }
 
     fn step(&mut self, lists: &mut Lists, call: Call) {
@@ -258,9 +305,9 @@ impl Walk<'_> {
             Choice::CloneS => Call::CloneS(self.number(live.senders)?),
             Choice::CloneR => Call::CloneR(self.number(live.receivers)?),
             Choice::TrySend => Call::TrySend(self.number(live.senders)?, value),
-            Choice::TryRes => Call::TryRes(self.number(live.senders)?),
-            Choice::Reserve => Call::Reserve(self.number(live.senders)?),
-            Choice::Send => Call::Send(self.number(live.senders)?, value),
+            Choice::TryRes => Call::TryRes(self.reserving(live)?),
+            Choice::Reserve => Call::Reserve(self.reserving(live)?),
+            Choice::Send => Call::Send(self.reserving(live)?, value),
             Choice::Recv => Call::Recv(self.number(live.receivers)?),
             Choice::PollOut => {
                 let number = self.outgoing(live)?;
@@ -284,6 +331,11 @@ impl Walk<'_> {
     /// A live number if there is one, or one chosen with no regard to that.
     fn number(&mut self, live: u64) -> Option<u32> {
         if self.rng.percent(self.stray) { Some(self.stray_number()) } else { self.rng.bit(live) }
+    }
+
+    /// A sender for a call that an unbounded queue refuses: a walk with no stray numbers goes without such calls.
+    fn reserving(&mut self, live: Live) -> Option<u32> {
+        if self.unbounded && self.stray == 0 { None } else { self.number(live.senders) }
     }
 
     fn outgoing(&mut self, live: Live) -> Option<u32> {

@@ -37,8 +37,8 @@ none-requires-2 c κs = search needs
 enum-known-what-4 : tie.Need-enum-known-what-4
 enum-known-what-4 c = search needs
 
-six-requires : tie.Need-six-requires
-six-requires c κs = search needs
+counts-requires : tie.Need-counts-requires
+counts-requires c κs = search needs
 
 enum-known-what-5 : tie.Need-enum-known-what-5
 enum-known-what-5 c = search needs
@@ -82,6 +82,18 @@ enum-told-7 c = search needs
 none-requires-7 : tie.Need-none-requires-7
 none-requires-7 c κs = search needs
 
+enum-told-8 : tie.Need-enum-told-8
+enum-told-8 c = search needs
+
+none-requires-8 : tie.Need-none-requires-8
+none-requires-8 c κs = search needs
+
+enum-told-9 : tie.Need-enum-told-9
+enum-told-9 c = search needs
+
+none-requires-9 : tie.Need-none-requires-9
+none-requires-9 c κs = search needs
+
 returns : tie.Need-returns
 returns c = search says-field
 
@@ -121,6 +133,12 @@ returns-12 c = search says-field
 returns-13 : tie.Need-returns-13
 returns-13 c = search says-field
 
+returns-14 : tie.Need-returns-14
+returns-14 c = search says-field
+
+returns-15 : tie.Need-returns-15
+returns-15 c = search says-field
+
 pub numbers-spec : {M : Type 1} → statement M
 numbers-spec =
     tie.close
@@ -136,7 +154,7 @@ numbers-spec =
     enum-told-2
     none-requires-2
     enum-known-what-4
-    six-requires
+    counts-requires
     enum-known-what-5
     cargo-requires
     enum-told-3
@@ -151,6 +169,10 @@ numbers-spec =
     none-requires-6
     enum-told-7
     none-requires-7
+    enum-told-8
+    none-requires-8
+    enum-told-9
+    none-requires-9
     returns
     returns-2
     returns-3
@@ -163,4 +185,6 @@ numbers-spec =
     returns-10
     returns-11
     returns-12
-    returns-13)
+    returns-13
+    returns-14
+    returns-15)

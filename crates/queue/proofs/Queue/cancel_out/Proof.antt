@@ -5,7 +5,6 @@ use mathlib.Core.Logic.{⊎-elim}
 use Rattle.queue.proofs.Sending.{cancel-open}
 use Rattle.queue.proofs.Settled.{free-small}
 use Rattle.queue.proofs.Polled.{cancelled-dead, cancelled-gone, cancelled-freed, cancelled-granted, cancelled-other}
-use native.Mathlib.Omega.{arith}
 use borrow.Author.Needs.{needs}
 use Rattle.queue.proofs.Queue.cancel_out.Statement.{statement}
 use Rattle.queue.proofs.Queue.cancel_out.Tie as tie
@@ -31,8 +30,8 @@ count-requires c κs = search needs
 line-is-empty-requires : tie.Need-line-is-empty-requires
 line-is-empty-requires c κs = search needs
 
-add-self : tie.Need-add-self
-add-self c = omega (arith, free-small _ (c .before .before .before .before .before .before .before .before .before .before .before .before .before .before .pre))
+more-requires : tie.Need-more-requires
+more-requires c κs = free-small _ (c .before .before .before .before .before .before .before .before .before .before .before .before .before .before .pre)
 
 call-first-requires : tie.Need-call-first-requires
 call-first-requires c κs = search needs
@@ -61,7 +60,7 @@ cancel-out-spec =
     is-called-requires
     count-requires
     line-is-empty-requires
-    add-self
+    more-requires
     call-first-requires
     kept-requires
     say-requires

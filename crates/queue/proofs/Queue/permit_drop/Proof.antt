@@ -19,8 +19,8 @@ count-requires c κs = search needs
 line-is-empty-requires : tie.Need-line-is-empty-requires
 line-is-empty-requires c κs = search needs
 
-add-self : tie.Need-add-self
-add-self c = let h = free-small _ (c .before .before .before .before .before .before .before .before .before .before .before .pre) in search needs
+more-requires : tie.Need-more-requires
+more-requires c κs = free-small _ (c .before .before .before .before .before .before .before .before .before .before .before .pre)
 
 call-first-requires : tie.Need-call-first-requires
 call-first-requires c κs = search needs
@@ -41,7 +41,7 @@ permit-drop-spec =
     close-requires
     count-requires
     line-is-empty-requires
-    add-self
+    more-requires
     call-first-requires
     say-requires
     returns)

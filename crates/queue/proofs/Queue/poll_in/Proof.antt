@@ -1,7 +1,8 @@
 -- `queue::Queue::poll_in` meets its contract.
 -- Assumes nothing.
 use mathlib.Core.Logic.{⊎-elim}
-use Rattle.queue.proofs.Taken.{slot-fits, open-value, open-gone, open-pending, in-free, in-granted, in-ended, in-waits, in-refused}
+use Rattle.queue.proofs.Settled.{free-small}
+use Rattle.queue.proofs.Taken.{open-value, open-gone, open-pending, in-free, in-granted, in-ended, in-waits, in-refused}
 use borrow.Author.Needs.{needs}
 use Rattle.queue.proofs.Queue.poll_in.Statement.{statement}
 use Rattle.queue.proofs.Queue.poll_in.Tie as tie
@@ -30,8 +31,8 @@ without-first-requires c κs = search needs
 line-is-empty-requires : tie.Need-line-is-empty-requires
 line-is-empty-requires c κs = search needs
 
-add-self : tie.Need-add-self
-add-self c = slot-fits _ (c .before .before .before .before .before .before .before .before .before .before .before .before .before .pre)
+more-requires : tie.Need-more-requires
+more-requires c κs = free-small _ (c .before .before .before .before .before .before .before .before .before .before .before .before .before .pre)
 
 call-first-requires : tie.Need-call-first-requires
 call-first-requires c κs = search needs
@@ -65,7 +66,7 @@ returns c =
     let k = c .before .before .kept-of in
     let says = c .say .ensures in
     ⊎-elim
-    (λ w. in-free _ (s .pre) _ (g .result) (g .ensures) _ told _ (k .result) (k .ensures) _ _ _ says _ _ (w .1 .given .1) _ (w .2 .ensures) _ (w .4 .ensures) _ (w .6 .ensures) (w .10) (w .7 .taken) (w .9) (w .11))
+    (λ w. in-free _ (s .pre) _ (g .result) (g .ensures) _ told _ (k .result) (k .ensures) _ _ _ says _ _ (w .1 .given .1) _ (w .2 .ensures) _ (w .4 .ensures) _ (w .6 .ensures) (w .11) _ (w .9 .ensures) (w .7 .taken) (w .10) (w .12))
     (⊎-elim
     (λ w. in-granted _ (s .pre) _ (g .result) (g .ensures) _ told _ (k .result) (k .ensures) _ _ _ says _ _ (w .1 .given .1) _ (w .2 .ensures) _ (w .4 .ensures) _ (w .6 .ensures) (w .11) _ (w .7 .left) (w .8 .ensures) (w .10) (w .12))
     (⊎-elim
@@ -86,7 +87,7 @@ poll-in-spec =
     end-requires
     without-first-requires
     line-is-empty-requires
-    add-self
+    more-requires
     call-first-requires
     enum-told-2
     end-requires-2

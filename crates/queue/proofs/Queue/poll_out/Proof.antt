@@ -49,10 +49,10 @@ push-back-requires : tie.Need-push-back-requires
 push-back-requires c κs = search (needs, room-push)
 
 line-is-empty-requires : tie.Need-line-is-empty-requires
-line-is-empty-requires c κs = search needs
+line-is-empty-requires c κs = c .before .before .before .before .before .before .before .before .before .before .before .before .before .pre .shaped .ins
 
 call-first-requires : tie.Need-call-first-requires
-call-first-requires c κs = search needs
+call-first-requires c κs = c .before .before .before .before .before .before .before .before .before .before .before .before .before .before .before .pre .shaped .ins
 
 enum-told-2 : tie.Need-enum-told-2
 enum-told-2 c = search needs
@@ -65,9 +65,9 @@ say-requires c κs = search needs
 
 returns : tie.Need-returns
 returns c =
-    let pre = c .before .before .before .before .before .before .before .pre in
-    let left = c .before .before .before .count .ensures in
-    let sees = c .before .before .before .before .before .get .ensures in
+    let pre = c .before .before .before .before .before .before .before .before .pre in
+    let left = c .before .before .before .before .count .ensures in
+    let sees = c .before .before .before .before .before .before .get .ensures in
     let comes = c .before .before .outcome-of .ensures in
     let says = c .say .ensures in
     ⊎-elim

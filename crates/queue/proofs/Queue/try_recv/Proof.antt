@@ -1,7 +1,8 @@
 -- `queue::Queue::try_recv` meets its contract.
 -- Assumes nothing.
 use mathlib.Core.Logic.{⊎-elim}
-use Rattle.queue.proofs.Taken.{slot-fits, took-free, took-granted, took-nothing}
+use Rattle.queue.proofs.Settled.{free-small}
+use Rattle.queue.proofs.Taken.{took-free, took-granted, took-nothing}
 use borrow.Author.Needs.{needs}
 use Rattle.queue.proofs.Queue.try_recv.Statement.{statement}
 use Rattle.queue.proofs.Queue.try_recv.Tie as tie
@@ -18,8 +19,8 @@ without-first-requires c κs = search needs
 line-is-empty-requires : tie.Need-line-is-empty-requires
 line-is-empty-requires c κs = search needs
 
-add-self : tie.Need-add-self
-add-self c = slot-fits _ (c .before .before .before .before .before .before .before .before .before .pre)
+more-requires : tie.Need-more-requires
+more-requires c κs = free-small _ (c .before .before .before .before .before .before .before .before .before .pre)
 
 call-first-requires : tie.Need-call-first-requires
 call-first-requires c κs = search needs
@@ -33,7 +34,7 @@ returns c =
     let told = c .before .before .receivable .ensures in
     let says = c .say .ensures in
     ⊎-elim
-    (λ w. took-free _ (s .pre) _ _ told _ _ says _ _ (w .1 .given .1) _ (w .3 .ensures) _ (w .5 .ensures) (w .6 .taken) (w .8) (w .9))
+    (λ w. took-free _ (s .pre) _ _ told _ _ says _ _ (w .1 .given .1) _ (w .3 .ensures) _ (w .5 .ensures) _ (w .8 .ensures) (w .6 .taken) (w .9) (w .10))
     (⊎-elim
     (λ w. took-granted _ (s .pre) _ _ told _ _ says _ _ (w .1 .given .1) _ (w .3 .ensures) _ (w .5 .ensures) _ (w .6 .left) (w .7 .ensures) (w .9) (w .10))
     (λ w. took-nothing _ (s .pre) _ _ told _ _ says _ (w .0 .keys2) (w .1) (w .2)))
@@ -47,7 +48,7 @@ try-recv-spec =
     enum-told
     without-first-requires
     line-is-empty-requires
-    add-self
+    more-requires
     call-first-requires
     say-requires
     returns)

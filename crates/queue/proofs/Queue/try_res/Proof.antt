@@ -1,22 +1,22 @@
 -- `queue::Queue::try_res` meets its contract. Its arms meet before the one exit: a slot was taken, or not.
 -- Assumes nothing.
 use mathlib.Core.Logic.{⊎-elim}
-use Rattle.queue.proofs.Sent.{free-sent, owner-sent, res-not, res-taken}
+use Rattle.queue.proofs.Sent.{free-reserved, owner-reserved, res-not, res-taken}
 use borrow.Author.Needs.{needs}
 use Rattle.queue.proofs.Queue.try_res.Statement.{statement}
 use Rattle.queue.proofs.Queue.try_res.Tie as tie
 
-sendable-requires : tie.Need-sendable-requires
-sendable-requires c κs = search needs
+reservable-requires : tie.Need-reservable-requires
+reservable-requires c κs = search needs
 
 is-done-requires : tie.Need-is-done-requires
 is-done-requires c κs = search needs
 
-sub-self : tie.Need-sub-self
-sub-self c = search free-sent
+less-requires : tie.Need-less-requires
+less-requires c κs = search free-reserved
 
 cast-owner : tie.Need-cast-owner
-cast-owner c = search owner-sent
+cast-owner c = search owner-reserved
 
 open-requires : tie.Need-open-requires
 open-requires c κs = search needs
@@ -35,9 +35,9 @@ pub try-res-spec : {M : Type 1} → statement M
 try-res-spec =
     tie.close
     (tie.spec
-    sendable-requires
+    reservable-requires
     is-done-requires
-    sub-self
+    less-requires
     cast-owner
     open-requires
     given-requires

@@ -12,8 +12,8 @@ sendable-requires c κs = search needs
 is-done-requires : tie.Need-is-done-requires
 is-done-requires c κs = search needs
 
-sub-self : tie.Need-sub-self
-sub-self c = search free-sent
+less-requires : tie.Need-less-requires
+less-requires c κs = search free-sent
 
 push-back-requires : tie.Need-push-back-requires
 push-back-requires c κs = search room-sent
@@ -38,7 +38,7 @@ try-send-spec =
     (tie.spec
     sendable-requires
     is-done-requires
-    sub-self
+    less-requires
     push-back-requires
     line-is-empty-requires
     call-first-requires

@@ -5,6 +5,9 @@ use borrow.Author.Needs.{needs}
 use Rattle.queue.proofs.outgoing.is_ready.Statement.{statement}
 use Rattle.queue.proofs.outgoing.is_ready.Tie as tie
 
+is-none-requires : tie.Need-is-none-requires
+is-none-requires c κs = search needs
+
 enum-told : tie.Need-enum-told
 enum-told c = search needs
 
@@ -33,6 +36,7 @@ pub is-ready-spec : {M : Type 1} → statement M
 is-ready-spec =
     tie.close
     (tie.spec
+    is-none-requires
     enum-told
     enum-told-2
     enum-told-3

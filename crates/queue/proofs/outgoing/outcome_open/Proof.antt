@@ -21,8 +21,8 @@ returns-2 c = search comes-granted
 is-ready-requires : tie.Need-is-ready-requires
 is-ready-requires c κs = search needs
 
-sub-rest : tie.Need-sub-rest
-sub-rest c = search ready-free
+less-requires : tie.Need-less-requires
+less-requires c κs = search ready-free
 
 with-slot-requires-2 : tie.Need-with-slot-requires-2
 with-slot-requires-2 c κs = search needs
@@ -42,7 +42,7 @@ outcome-open-spec =
     with-slot-requires
     returns-2
     is-ready-requires
-    sub-rest
+    less-requires
     with-slot-requires-2
     returns-3
     returns-4)

@@ -1,5 +1,5 @@
 -- `Current::answer` meets its contract, line by line. Assumes nothing.
-use Rattle.calls.proofs.Lines.{line-is, bad-line}
+use Rattle.calls.proofs.Lines.{line-is, bad-line, unbounded-made}
 use borrow.Author.Needs.{needs}
 use Rattle.calls.proofs.current.Current.answer.Statement.{statement}
 use Rattle.calls.proofs.current.Current.answer.Tie as tie
@@ -16,6 +16,15 @@ enum-known-line c = search needs
 make-requires : tie.Need-make-requires
 make-requires c κs = search needs
 
+enum-told-2 : tie.Need-enum-told-2
+enum-told-2 c = search needs
+
+make-u-requires : tie.Need-make-u-requires
+make-u-requires c κs = search needs
+
+took-requires : tie.Need-took-requires
+took-requires c κs = search needs
+
 enum-known-line-2 : tie.Need-enum-known-line-2
 enum-known-line-2 c = search needs
 
@@ -29,7 +38,10 @@ returns-2 : tie.Need-returns-2
 returns-2 c = search line-is
 
 returns-3 : tie.Need-returns-3
-returns-3 c = search line-is
+returns-3 c = search (line-is, unbounded-made)
+
+returns-4 : tie.Need-returns-4
+returns-4 c = search line-is
 
 pub answer-spec : {M : Type 1} → statement M
 answer-spec =
@@ -39,8 +51,12 @@ answer-spec =
     bare-answer-requires
     enum-known-line
     make-requires
+    enum-told-2
+    make-u-requires
+    took-requires
     enum-known-line-2
     call-requires
     returns
     returns-2
-    returns-3)
+    returns-3
+    returns-4)
