@@ -9,4 +9,5 @@ pub mod FreeRoom
 pub mod Handing
 pub mod Making
 pub mod Histories
+pub mod Dumps
 pub mod One
