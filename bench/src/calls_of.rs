@@ -1,11 +1,13 @@
 //! A random history: most calls name live records, so that most of them do something.
 
 use oracle::calls::Call;
+use oracle::calls::Record;
+use oracle::machine::Answer;
 use oracle::machine::Machine;
 
 pub struct History {
     pub calls: Vec<Call>,
-    /// The same for `loops`: kind, record number, value or token.
+    /// The same for `loops`, six bytes each: kind, record number (four bytes, the lowest first), value or token.
     pub bytes: Vec<u8>,
 }
 
@@ -19,7 +21,7 @@ impl Random {
         (self.0 >> 33) as u32 % limit
     }
 
-    /// One of the numbers whose bit is set; 0 if there is none.
+    /// One of the places whose bit is set; 0 if there is none.
     fn among(&mut self, live: u64) -> u32 {
         let nth = self.below(live.count_ones().max(1));
         let rest = (0..nth).fold(live, |bits, _| bits & bits.wrapping_sub(1));
@@ -39,30 +41,43 @@ impl History {
                 67 => 16,
                 other => other as u8 % 16,
             };
-            let live = machine.live();
-            let table = match kind {
-                0 | 2..=5 | 14 => live.senders,
-                1 | 6 | 11 | 15 => live.receivers,
-                7 | 8 => live.outgoing,
-                9 | 10 => live.permits,
-                _ => live.incoming,
+            let record = match kind {
+                0 | 2..=5 | 14 => Record::Sender,
+                1 | 6 | 11 | 15 => Record::Receiver,
+                7 | 8 => Record::Outgoing,
+                9 | 10 => Record::Permit,
+                _ => Record::Incoming,
             };
-            let (n, v) = (random.among(table), random.below(200));
-            if (kind == 14 || kind == 15) && n == 0 {
+            let (place, v) = (random.among(machine.live(record)), random.below(200));
+            if (kind == 14 || kind == 15) && place == 0 {
                 continue;
             }
+            let n = machine.number_at(record, place);
             let call = call_of(kind, n, v);
             machine.answer(call);
             history.calls.push(call);
-            history.bytes.extend([kind, n as u8, v as u8]);
+            history.bytes.push(kind);
+            history.bytes.extend(n.to_le_bytes());
+            history.bytes.push(v as u8);
         }
         history
     }
 
-    /// The history as lines for the call program, so many times over.
+    /// So many calls of the history on a machine, from the first again after the last. Its numbers are those of one queue,
+    /// so each time over is on a new one.
+    pub fn run(&self, machine: &mut Machine, calls: usize, mut after: impl FnMut(Answer)) {
+        for once in (0..calls).step_by(self.calls.len()) {
+            machine.answer(Call::Make(8));
+            for &call in self.calls.iter().take(calls - once) {
+                after(machine.answer(call));
+            }
+        }
+    }
+
+    /// The history as lines for the call program, so many times over, each on a queue of its own.
     pub fn text(&self, times: usize) -> String {
         let once: String = self.calls.iter().map(|call| format!("{call}\n")).collect();
-        "make 8\n".to_owned() + &once.repeat(times)
+        ("make 8\n".to_owned() + &once).repeat(times)
     }
 }
 

@@ -77,7 +77,7 @@ fn table<'a>(programs: &'a Programs, history: &'a History) -> Vec<(&'static str,
         ),
         ("lent: try-send, try-recv", 2, Work::new(|p| programs.lent(b'l', p), |n| theirs::pairs(n, 8))),
         ("lent, refused at once", 2, Work::new(|p| programs.lent(b'x', p), |_| {})),
-        ("a random history", 1, Work::new(move |p| loops(b'h', p, 0), |n| theirs::history(n, &history.calls))),
+        ("a random history", 1, Work::new(move |p| loops(b'h', p, 0), |n| theirs::history(n, history))),
     ]
 }
 
@@ -129,7 +129,7 @@ fn main() {
         // The crate's loop alone, for a tool that counts instructions.
         let name = arguments.next().expect("a loop");
         let rounds = 1 << arguments.next().and_then(|power| power.parse::<u32>().ok()).expect("a power");
-        theirs::by_name(&name, rounds, &history.calls);
+        theirs::by_name(&name, rounds, &history);
         return;
     }
     let programs = Programs::in_folder(folder);

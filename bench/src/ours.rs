@@ -52,12 +52,7 @@ impl Programs {
     /// After the history both queues must stand alike, else the two did not do the same work.
     pub fn check_history(&self, history: &History, power: u32) {
         let mut machine = Machine::new();
-        machine.answer(Call::Make(8));
-        // The program makes the first call once more, to warm up.
-        machine.answer(history.calls[0]);
-        for &call in history.calls.iter().cycle().take(1 << power) {
-            machine.answer(call);
-        }
+        history.run(&mut machine, 1 << power, drop);
         let Field::Counts([Some(queued), Some(free), _, _, Some(lined), Some(waiting)]) =
             machine.answer(Call::Status).field
         else {
@@ -126,7 +121,7 @@ impl Programs {
     pub fn lines_a_second(&self, history: &History) {
         let list = self.folder.join("list");
         fs::write(&list, history.text(50)).expect("the list is written");
-        let lines = history.calls.len() * 50 + 1;
+        let lines = (history.calls.len() + 1) * 50;
         let mut least = Duration::MAX;
         for _ in 0..7 {
             let start = Instant::now();

@@ -7,10 +7,11 @@ use std::pin::Pin;
 use std::task::Context;
 use std::task::Poll;
 
-use oracle::calls::Call;
 use oracle::machine::Machine;
 use oracle::mpmc::bounded::bounded;
 use oracle::wakers::waker;
+
+use crate::calls_of::History;
 
 pub fn pairs(rounds: u64, capacity: u8) {
     let (sender, receiver) = bounded::<u32>(capacity.into());
@@ -81,15 +82,13 @@ pub fn notified(rounds: u64, waiting: u8) {
 }
 
 /// The crate behind the comparison's tables of handles and futures, which stand for record numbers; they cost time too.
-pub fn history(rounds: u64, calls: &[Call]) {
-    let mut machine = Machine::new();
-    machine.answer(Call::Make(8));
-    for &call in calls.iter().cycle().take(rounds as usize) {
-        black_box(machine.answer(black_box(call)));
-    }
+pub fn history(rounds: u64, history: &History) {
+    black_box(history).run(&mut Machine::new(), rounds as usize, |answer| {
+        black_box(answer);
+    });
 }
 
-pub fn by_name(name: &str, rounds: u64, calls: &[Call]) {
+pub fn by_name(name: &str, rounds: u64, calls: &History) {
     match name {
         "p" => pairs(rounds, 8),
         "r" => reserves(rounds, 0),

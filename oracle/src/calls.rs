@@ -26,6 +26,19 @@ pub enum Call {
     Status,
 }
 
+/// The kinds of record that have numbers.
+#[derive(Clone, Copy, Debug, Eq, Hash, PartialEq)]
+pub enum Record {
+    Sender,
+    Receiver,
+    Outgoing,
+    Incoming,
+    Permit,
+}
+
+/// A record's number is its place + 64 x its turn.
+pub const PLACES: u32 = 64;
+
 /// Bytes of the longest line that may be read, without its LF.
 pub const LONGEST_LINE: usize = 64;
 
@@ -109,6 +122,23 @@ impl Call {
             Call::DropR(n) => ("drop-r", [Some(n), None]),
             Call::Status => ("status", [None, None]),
         }
+    }
+
+    /// The kind of record that the call names, and where its number stands.
+    pub fn named(&mut self) -> Option<(Record, &mut u32)> {
+        Some(match self {
+            Call::CloneS(n)
+            | Call::TrySend(n, _)
+            | Call::TryRes(n)
+            | Call::Reserve(n)
+            | Call::Send(n, _)
+            | Call::DropS(n) => (Record::Sender, n),
+            Call::CloneR(n) | Call::Recv(n) | Call::TryRecv(n) | Call::DropR(n) => (Record::Receiver, n),
+            Call::PollOut(n, _) | Call::CancelOut(n) => (Record::Outgoing, n),
+            Call::PollIn(n, _) | Call::CancelIn(n) => (Record::Incoming, n),
+            Call::PermitSend(n, _) | Call::PermitDrop(n) => (Record::Permit, n),
+            Call::Make(_) | Call::MakeU | Call::Status => return None,
+        })
     }
 
     /// Appends the line of this call, without its LF.

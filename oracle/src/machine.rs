@@ -8,6 +8,8 @@ use std::task::Context;
 use std::task::Poll;
 
 use crate::calls::Call;
+use crate::calls::PLACES;
+use crate::calls::Record;
 use crate::mpmc::BoundedReceiver;
 use crate::mpmc::BoundedSender;
 use crate::mpmc::Permit;
@@ -69,49 +71,96 @@ fn answer(code: Code, field: Field) -> Answer {
     Answer { code, field }
 }
 
-/// The records of one kind. A new one gets the lowest free number.
+/// Turns of a place, 0 to 67108863: a number with the last of them still has 32 bits.
+const TURNS: u32 = 1 << 26;
+
+fn place_of(number: u32) -> usize {
+    (number % PLACES) as usize
+}
+
+fn turn_of(number: u32) -> u32 {
+    number / PLACES
+}
+
+/// The records of one kind. A record's number is its place + 64 x its turn, the turn counting how often that place was
+/// used before. A new record gets the lowest free place that has a turn left.
 struct Table<T, const LIMIT: usize> {
     records: [Option<T>; LIMIT],
+    /// How many turns of each place are over: the turn of the record there, or of the next one.
+    turns: [u32; LIMIT],
+    /// The places with a record, one bit each, and those whose last turn is closed.
     live: u64,
+    spent: u64,
 }
 
 impl<T, const LIMIT: usize> Table<T, LIMIT> {
     fn new() -> Self {
-        Table { records: [const { None }; LIMIT], live: 0 }
+        Table { records: [const { None }; LIMIT], turns: [0; LIMIT], live: 0, spent: 0 }
     }
 
-    fn room(&self) -> Result<(), Code> {
-        if (self.live.trailing_ones() as usize) < LIMIT { Ok(()) } else { Err(Code::NoRoom) }
+    fn room(&self) -> Result<usize, Code> {
+        let place = (self.live | self.spent).trailing_ones() as usize;
+        if place < LIMIT { Ok(place) } else { Err(Code::NoRoom) }
     }
 
     fn open(&mut self, record: T) -> Result<Answer, Code> {
-        self.room()?;
-        let number = self.live.trailing_ones();
-        self.records[number as usize] = Some(record);
-        self.live |= 1 << number;
-        Ok(answer(Code::Given, Field::Number(number)))
+        let place = self.room()?;
+        self.records[place] = Some(record);
+        self.live |= 1 << place;
+        Ok(answer(Code::Given, Field::Number(self.number_at(place))))
+    }
+
+    /// The number of the record at a place, or of the next one there. A place that this kind does not have was never
+    /// used.
+    fn number_at(&self, place: usize) -> u32 {
+        place as u32 + PLACES * self.turns.get(place).copied().unwrap_or(0)
+    }
+
+    /// The place of the live record with this number.
+    fn find(&self, number: u32) -> Result<usize, Code> {
+        let place = place_of(number);
+        let is_live = self.live >> place & 1 == 1;
+        if is_live && self.turns[place] == turn_of(number) { Ok(place) } else { Err(Code::NoHandle) }
     }
 
     fn get(&self, number: u32) -> Result<&T, Code> {
-        self.records.get(number as usize).and_then(Option::as_ref).ok_or(Code::NoHandle)
+        self.records[self.find(number)?].as_ref().ok_or(Code::NoHandle)
     }
 
     fn get_mut(&mut self, number: u32) -> Result<&mut T, Code> {
-        self.records.get_mut(number as usize).and_then(Option::as_mut).ok_or(Code::NoHandle)
+        let place = self.find(number)?;
+        self.records[place].as_mut().ok_or(Code::NoHandle)
     }
 
     fn close(&mut self, number: u32) -> Result<T, Code> {
-        let record = self.records.get_mut(number as usize).and_then(Option::take).ok_or(Code::NoHandle)?;
-        self.live &= !(1 << number);
-        Ok(record)
+        let place = self.find(number)?;
+        self.live &= !(1 << place);
+        self.turns[place] += 1;
+        if self.turns[place] == TURNS {
+            self.spent |= 1 << place;
+        }
+        self.records[place].take().ok_or(Code::NoHandle)
     }
 
-    fn close_all(&mut self) -> impl Iterator<Item = T> {
-        std::iter::from_fn(|| self.close(self.live.trailing_zeros()).ok())
+    /// Ends every record. What is left is a table whose places were never used.
+    fn clear(&mut self, mut end: impl FnMut(T)) {
+        while self.live != 0 {
+            let record = self.records[self.live.trailing_zeros() as usize].take();
+            self.live &= self.live - 1;
+            record.into_iter().for_each(&mut end);
+        }
+        self.spent = 0;
+        self.turns = [0; LIMIT];
     }
 
     fn each(&self) -> impl Iterator<Item = (u32, &T)> {
-        (0..).zip(&self.records).filter_map(|(number, record)| Some((number, record.as_ref()?)))
+        (0..).zip(&self.records).filter_map(|(place, record)| Some((self.number_at(place), record.as_ref()?)))
+    }
+
+    /// The turns of the places up to the last that was used before.
+    fn used(&self) -> &[u32] {
+        let end = self.turns.iter().rposition(|&turn| turn > 0).map_or(0, |place| place + 1);
+        &self.turns[..end]
     }
 }
 
@@ -253,7 +302,7 @@ impl Queue {
     }
 
     fn open_first(&mut self, sender: Sender, receiver: Receiver) {
-        // The tables are empty, so both get number 0.
+        // No place of the tables was used, so both get number 0.
         let _ = self.senders.open(Handle::new(sender));
         let _ = self.receivers.open(Handle::new(receiver));
     }
@@ -268,11 +317,11 @@ impl Queue {
 
     /// Borrowers first, then the handles they borrow.
     fn close_all(&mut self) {
-        self.outgoing.close_all().for_each(drop);
-        self.incoming.close_all().for_each(drop);
-        self.permits.close_all().for_each(drop);
-        self.senders.close_all().for_each(|sender| drop(sender.reclaim()));
-        self.receivers.close_all().for_each(|receiver| drop(receiver.reclaim()));
+        self.outgoing.clear(drop);
+        self.incoming.clear(drop);
+        self.permits.clear(drop);
+        self.senders.clear(|sender| drop(sender.reclaim()));
+        self.receivers.clear(|receiver| drop(receiver.reclaim()));
     }
 
     fn call(&mut self, call: Call) -> Result<Answer, Code> {
@@ -382,7 +431,12 @@ impl Queue {
         let ready = match &mut operation.future {
             OutgoingFuture::Reserve(future) => match future.as_mut().poll(&mut context) {
                 Poll::Pending => None,
-                Poll::Ready(Ok(permit)) => Some(self.permits.open(PermitRecord { owner, permit })?),
+                Poll::Ready(Ok(permit)) => {
+                    let given = self.permits.open(PermitRecord { owner, permit });
+                    // Permits run short only after 67108864 uses of one place, which no list has. Here the crate's operation would
+                    // have ended already where 23 must leave it as it is: then no answer is given.
+                    Some(given.expect("oracle failure: permits ran short"))
+                }
                 Poll::Ready(Err(_)) => Some(answer(Code::Disconnected, Field::None)),
             },
             OutgoingFuture::Send(future) => match future.as_mut().poll(&mut context) {
@@ -437,16 +491,6 @@ impl Drop for Queue {
     }
 }
 
-/// The live numbers of each kind, one bit each.
-#[derive(Clone, Copy, Default)]
-pub struct Live {
-    pub senders: u64,
-    pub receivers: u64,
-    pub outgoing: u64,
-    pub incoming: u64,
-    pub permits: u64,
-}
-
 /// What a call list is run on: the queue of its latest good make, if there was one.
 #[derive(Default)]
 pub struct Machine {
@@ -492,13 +536,26 @@ impl Machine {
         Ok(answer(Code::Done, Field::None))
     }
 
-    pub fn live(&self) -> Live {
-        self.queue.as_ref().map_or(Live::default(), |queue| Live {
-            senders: queue.senders.live,
-            receivers: queue.receivers.live,
-            outgoing: queue.outgoing.live,
-            incoming: queue.incoming.live,
-            permits: queue.permits.live,
+    /// The live places of a kind, one bit each.
+    pub fn live(&self, record: Record) -> u64 {
+        self.queue.as_ref().map_or(0, |queue| match record {
+            Record::Sender => queue.senders.live,
+            Record::Receiver => queue.receivers.live,
+            Record::Outgoing => queue.outgoing.live,
+            Record::Incoming => queue.incoming.live,
+            Record::Permit => queue.permits.live,
+        })
+    }
+
+    /// The number of the record at a place of its kind, or of the next one there.
+    pub fn number_at(&self, record: Record, place: u32) -> u32 {
+        let at = place as usize;
+        self.queue.as_ref().map_or(place, |queue| match record {
+            Record::Sender => queue.senders.number_at(at),
+            Record::Receiver => queue.receivers.number_at(at),
+            Record::Outgoing => queue.outgoing.number_at(at),
+            Record::Incoming => queue.incoming.number_at(at),
+            Record::Permit => queue.permits.number_at(at),
         })
     }
 
@@ -537,5 +594,39 @@ impl Machine {
         for (n, permit) in queue.permits.each() {
             out.extend([n, permit.owner]);
         }
+        let (handles, operations) =
+            ([queue.senders.used(), queue.receivers.used()], [queue.outgoing.used(), queue.incoming.used()]);
+        for turns in handles.into_iter().chain(operations).chain([queue.permits.used()]) {
+            out.push(END);
+            out.extend(turns);
+        }
+    }
+}
+
+#[cfg(test)]
+mod tests {
+    use super::*;
+
+    fn open<const LIMIT: usize>(table: &mut Table<(), LIMIT>) -> Result<u32, Code> {
+        table.open(()).map(|given| match given.field {
+            Field::Number(number) => number,
+            _ => panic!("{given:?}"),
+        })
+    }
+
+    /// No list is long enough to come here.
+    #[test]
+    fn a_place_whose_last_turn_is_closed_is_not_given_again() {
+        let mut table = Table::<(), 2>::new();
+        table.turns = [TURNS - 1, 5];
+        assert_eq!(open(&mut table), Ok(u32::MAX - 63));
+        assert_eq!(table.close(u32::MAX - 63), Ok(()));
+        assert_eq!(open(&mut table), Ok(1 + 64 * 5));
+        assert_eq!(open(&mut table), Err(Code::NoRoom));
+        assert_eq!(table.get(u32::MAX - 63), Err(Code::NoHandle));
+        assert_eq!(table.close(1 + 64 * 5), Ok(()));
+        assert_eq!(open(&mut table), Ok(1 + 64 * 6));
+        table.clear(drop);
+        assert_eq!((open(&mut table), open(&mut table)), (Ok(0), Ok(1)));
     }
 }

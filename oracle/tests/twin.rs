@@ -84,6 +84,36 @@ fn an_unbounded_queue_holds_64_values() {
 }
 
 #[test]
+fn a_number_is_its_place_and_64_times_its_turn() {
+    // Three uses of a place, and another place that has turns of its own.
+    assert_eq!(
+        last("make 1\nrecv 0\nrecv 0\ncancel-in 0\nrecv 0\ncancel-in 64\nrecv 0", 5),
+        ["2 1", "0 -", "2 64", "0 -", "2 128"]
+    );
+    assert_eq!(last("make 1\nrecv 0\nrecv 0\ncancel-in 0\nrecv 0\ncancel-in 1\nrecv 0\nrecv 0", 2), ["2 65", "2 2"]);
+    // The lowest free place, though another was freed later.
+    assert_eq!(last("make 1\nrecv 0\nrecv 0\nrecv 0\ncancel-in 0\ncancel-in 2\nrecv 0\nrecv 0", 2), ["2 64", "2 66"]);
+    assert_eq!(
+        last("make 2\ntry-res 0\npermit-drop 0\ntry-res 0\npermit-send 64 7\ntry-res 0", 3),
+        ["2 64", "0 -", "2 128"]
+    );
+    assert_eq!(last("make 1\nclone-s 0\ndrop-s 0\nclone-s 1\nclone-s 64", 2), ["2 64", "2 2"]);
+    // The turns are this queue's.
+    assert_eq!(last("make 1\nrecv 0\ncancel-in 0\nmake 1\nrecv 0", 1), ["2 0"]);
+}
+
+#[test]
+fn a_number_of_another_turn_reaches_nobody() {
+    let second_use = "make 1\nrecv 0\nrecv 0\ncancel-in 0\nrecv 0\npoll-in 64 50\n";
+    for dead in ["0", "128", "65", "4294967232"] {
+        let list = format!("{second_use}poll-in {dead} 51\ncancel-in {dead}\nstatus\ntry-send 0 7\npoll-in 64 50");
+        assert_eq!(last(&list, 5), ["21 -", "21 -", "4 0,1,0,0,0,1", "0 -", "1 7"], "{dead}");
+    }
+    // A place that the kind does not have.
+    assert_eq!(last("make 1\nclone-s 80\nclone-r 16\nrecv 79\npoll-in 96 1", 4), ["21 -"; 4]);
+}
+
+#[test]
 fn stored_answers_are_the_crates() {
     let mut lists = 0;
     for entry in fs::read_dir(repository().join("lists")).unwrap() {

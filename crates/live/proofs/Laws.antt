@@ -1,5 +1,5 @@
 -- The laws of the list of a word's bits, in which n is live where `getD l n false ≡ true`. Assumes nothing.
-use mathlib.Core.Bool.{Bool, true, false}
+use mathlib.Core.Bool.{Bool, true, false, _||_}
 use mathlib.Core.List.{List, [], _∷_}
 use mathlib.Core.Path.{_≡_, refl, ap, _∙_}
 use Prim.Native.Nat.{ℕ, zero, suc, _/_, _<_, _≤_}
@@ -8,7 +8,7 @@ use native.Mathlib.Omega.{arith}
 use lib.ListN.{length, getD, set, replicate}
 use lib.Seq.{getD-set-other}
 use Rattle.live.specs.declared.Live.{Live}
-use Rattle.live.specs.Bits.{bitsOf, liveOf, noneLive, lowestClear, countLive}
+use Rattle.live.specs.Bits.{bitsOf, liveOf, noneLive, lowestClear, either, countLive}
 use Rattle.live.specs.Table.{Within}
 
 length-bits : (d n : ℕ) → length (bitsOf d n) ≡ d
@@ -25,6 +25,20 @@ unfolding lowestClear
 lowest-clear [] = refl
 lowest-clear (true ∷ l) = lowest-clear l
 lowest-clear (false ∷ l) = refl
+
+-- what is live in neither of two lists together is live in neither by itself
+pub either-clear : (l m : List Bool) (n : ℕ) → n < length l → n < length m → getD (either l m) n false ≡ false
+    → (getD l n false ≡ false) × (getD m n false ≡ false)
+unfolding either
+either-clear [] m n h k e = absurd (omega arith)
+either-clear (b ∷ l) [] n h k e = absurd (omega arith)
+either-clear (b ∷ l) (c ∷ m) (suc n) h k e = either-clear l m n (omega arith) (omega arith) e
+either-clear (b ∷ l) (c ∷ m) zero h k e = go b c e
+  where
+    go : (b c : Bool) → (b || c) ≡ false → (b ≡ false) × (c ≡ false)
+    go false false e = (refl, refl)
+    go false true e = (refl, e)
+    go true c e = (e, let z : _≡_ {A = ℕ} 0 1 = cc in absurd (omega arith))
 
 -- ---- no number from the limit on is live
 all-clear : (d n : ℕ) → getD (replicate d false) n false ≡ false

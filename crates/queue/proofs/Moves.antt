@@ -1,9 +1,8 @@
 -- THE MOVES that a call ends with, of an answer and a queue beside it. Assumes nothing.
 use Prim.Native.Nat.{ℕ}
 use mathlib.Core.List.{List}
-use Rattle.side.specs.declared.Cargo.{Cargo}
 use Rattle.side.specs.declared.OptToken.{OptToken}
-use Rattle.side.specs.Meaning.{carried, tokenList}
+use Rattle.side.specs.Meaning.{tokenList}
 use Rattle.model.specs.Queue as model
 use Rattle.queue.specs.declared.Queue.{Queue}
 use Rattle.queue.specs.declared.What.{What}
@@ -24,6 +23,3 @@ releasing code field retired q = let mv = model.release q in model.reply code fi
 
 pub record Releases (what : What) (retired : OptToken) (q : Queue) (r : Turn) : Type 0 where
   pub does : Does (releasing (codeOf what) (fieldOf what) (tokenList retired) (queueOf q)) r
-
-pub record Completes (c : Cargo) (s : ℕ) (q : Queue) (r : Turn) : Type 0 where
-  pub does : Does (model.complete (carried c) s (queueOf q) (queueOf q)) r

@@ -4,9 +4,7 @@ use Prim.Native.Nat.{ℕ, _+_, _-_, _<_}
 use mathlib.Core.Path.{_≡_, refl, sym, ap, _∙_, subst}
 use mathlib.Core.Bool.{Bool, true, false, not}
 use mathlib.Core.List.{[], _∷_, _++_}
-use mathlib.Core.Logic.{inl, inr, ⊎-elim}
-use mathlib.Core.Option.{some}
-use native.Mathlib.Omega.{arith}
+use mathlib.Core.Logic.{inl, inr}
 use lib.ListN.{length}
 use Rattle.ring.specs.declared.Ring.{Ring}
 use Rattle.ring.specs.Values as ring
@@ -14,7 +12,7 @@ use Rattle.waitlist.specs.View.{isNil}
 use Rattle.tables.specs.declared.Number.{Number}
 use Rattle.tables.specs.declared.Number.the-variants.{NoRoom as NoNumber, Given as GivenNo}
 use Rattle.tables.specs.declared.Given.{Given}
-use Rattle.tables.specs.Meaning.{handlesOf, permitsOf, isLive, numbered}
+use Rattle.tables.specs.Meaning.{handlesOf, isLive}
 use Rattle.tables.specs.Calls.{Gives}
 use Rattle.side.specs.declared.Side.{Side}
 use Rattle.side.specs.declared.Cargo.{Cargo}
@@ -31,7 +29,7 @@ use Rattle.side.specs.declared.Pended.{Pended}
 use Rattle.side.specs.declared.CalledOne.{CalledOne}
 use Rattle.side.specs.Meaning.{sideOf, stageOf, tokenList, wokenTokens}
 use Rattle.side.specs.Calls.{Open, Sees, Opens, Ends, Pends, CallsOne}
-use Rattle.model.specs.Table.{lookup, live, size}
+use Rattle.model.specs.Table.{lookup, live}
 use Rattle.model.specs.Side as side
 use Rattle.model.specs.Queue as model
 use Rattle.model.specs.declared.Call.the-variants.{PollOut, CancelOut}
@@ -45,12 +43,12 @@ use Rattle.queue.specs.declared.outgoing.Outcome.{Outcome}
 use Rattle.queue.specs.declared.outgoing.Outcome.the-variants.{NoHandle as NoOperation, Gone, Permit, Push, Stays}
 use Rattle.queue.specs.Meaning.{roomOf, queueOf, Shaped, Sound}
 use Rattle.queue.specs.Promise.{Turned}
-use Rattle.queue.specs.Steps.{Says, opening, ready, withSlot, Slot, Comes, givenBy}
+use Rattle.queue.specs.Steps.{Says, opening, ready, withSlot, Slot, Comes}
 use Rattle.queue.specs.Steps as steps
-use Rattle.queue.proofs.Moves.{Notifies, Releases, Completes}
-use Rattle.queue.proofs.Settled.{kept, turned-as, said-as, withValues, withFree, withPermits, withOuts, withIns, found-open}
-use Rattle.queue.proofs.Sending.{out-dead, out-wrong, out-full, out-given, notify-nobody, notify-one, pushed, shaped-pushed, complete-push, complete-given, spare}
-use Rattle.queue.proofs.Sending.{poll-dead, sees-found, poll-gone, poll-granted, poll-room, poll-pending, granted, room-granted, room-ready, spare-ready, shaped-ended, shaped-taken}
+use Rattle.queue.proofs.Moves.{Notifies, Releases}
+use Rattle.queue.proofs.Settled.{turned-as, said-as, withValues, withFree, withPermits, withOuts, withIns, found-open}
+use Rattle.queue.proofs.Sending.{out-dead, out-wrong, out-full, out-given, notify-nobody, notify-one, pushed, shaped-pushed}
+use Rattle.queue.proofs.Sending.{poll-dead, sees-found, poll-gone, slot-room, slot-pushed, slot-given, slot-short, poll-pending, shaped-ended, shaped-taken}
 use Rattle.queue.proofs.Sending.{release-gone, release-free, release-grant, cancel-dead, cancel-granted, cancel-other}
 
 -- ---- open_out
@@ -103,30 +101,7 @@ pub comes-found : (view : View) (e : Entry) (left : ℕ) (free : Available) (r :
 comes-found view e left free r f m = subst (λ (v : View). Comes v left free r) (sym f) m
 
 -- ---- poll_out
--- a number that is to be had is given
-number-given : (x : Number) (p : ℕ) → numbered x ≡ some p → x ≡ GivenNo p
-number-given NoNumber p e = let z : _≡_ {A = ℕ} 0 1 = cc in absurd (omega arith)
-number-given (GivenNo n) p e = cc
-
 module _ (q : Queue) (snd : Sound q) (n t : ℕ) (k : ℕ) (g : k ≡ live (handlesOf (q .receivers))) where
-  module _ (e : Entry) (sees : Sees (q .outs) n (Found e)) (z : k ≡ 0 → ⊥) (f : Available) (w : Slot e (q .free) f) where
-    slot-room : length (ring.values (q .values)) < 64
-    slot-room = ⊎-elim (λ x. room-granted q snd n t e sees k g z _ refl (q .outs) (x .0)) (λ x. room-ready q snd n t e sees k g z _ refl (x .0) _ refl (x .1)) w
-
-    slot-spare : live (permitsOf (q .permits)) < size (permitsOf (q .permits))
-    slot-spare =
-        let i = kept q snd in
-        let p : 0 < live (handlesOf (q .receivers)) = omega arith in
-        ⊎-elim (λ x. omega (arith, granted q snd n t e sees k g z _ refl (x .0), i .account .room p, i .sizes .capacity, i .sizes .permits))
-        (λ x. spare-ready q snd n t e sees k g z _ refl (x .0) _ refl (x .1)) w
-
-    slot-taken : (o : Side) (r : Turn) → Ends (q .outs) n o → Completes (e .cargo) (e .owner) (withFree f (withOuts o q)) r → Turned q (PollOut n t) (r .answer) (r .queue)
-    slot-taken o r x u =
-        ⊎-elim
-        (λ y. poll-granted q snd n t e sees k g z _ refl o r (y .0) x (subst (λ (m : Available). Completes (e .cargo) (e .owner) (withFree m (withOuts o q)) r) (y .1) u))
-        (λ y. poll-room q snd n t e sees k g z _ refl (y .0) _ refl o r f (y .2) (y .1) x u)
-        w
-
   module _ (view : View) (sees : Sees (q .outs) n view) (plan : Outcome) (m : Comes view k (q .free) plan) where
     by : (x : Outcome) → plan ≡ x → Comes view k (q .free) x
     by x e = subst (λ (y : Outcome). Comes view k (q .free) y) e m
@@ -150,7 +125,7 @@ module _ (q : Queue) (snd : Sound q) (n t : ℕ) (k : ℕ) (g : k ≡ live (hand
     open-stays e = let y = by Stays e in opened (y .0) (y .1)
 
     pub room-push : (v : ℕ) (f : Available) → plan ≡ Push v f → length (ring.values (q .values)) < 64
-    room-push v f e = let y = by (Push v f) e in slot-room (y .0) (at (y .0) (y .1)) (y .2) f (y .4)
+    room-push v f e = let y = by (Push v f) e in slot-room q snd n t (y .0) (at (y .0) (y .1)) k g (y .2) f (y .4)
 
     module _ (what : What) (woken : Woken) (retired : OptToken) (a : Answer) (u : Says what (wokenTokens woken) (tokenList retired) a) (q′ : Queue) where
       pub polled-dead : plan ≡ NoOperation → q′ ≡ q → what ≡ NoHandle → woken ≡ Nobody → retired ≡ NoToken → Turned q (PollOut n t) a q′
@@ -169,26 +144,29 @@ module _ (q : Queue) (snd : Sound q) (n t : ℕ) (k : ℕ) (g : k ≡ live (hand
           turned-as q (PollOut n t) a (withOuts (p .side) q) q′ i
           (poll-pending q snd n t (h .0) (at (h .0) (h .1)) k g (h .2) _ refl (h .3) _ refl p a (h .4) d (said-as what Pending woken Nobody retired (p .retired) a x y z u))
 
+      pub polled-short : (s : ℕ) (f : Available) (p : Given) → plan ≡ Permit s f → Gives (q .permits) s p → p .number ≡ NoNumber → q′ ≡ q → what ≡ NoRoom → woken ≡ Nobody → retired ≡ NoToken
+          → Turned q (PollOut n t) a q′
+      polled-short s f p e l j m x y z =
+          let h = by (Permit s f) e in
+          turned-as q (PollOut n t) a q q′ m
+          (slot-short q snd n t (h .0) (at (h .0) (h .1)) k g (h .2) f (h .5) (h .3) p (subst (λ (i : ℕ). Gives (q .permits) i p) (sym (h .4)) l) a j
+          (said-as what NoRoom woken Nobody retired NoToken a x y z u))
+
       module _ (f : Available) (o : Side) (d : Ends (q .outs) n o) where
-        pub polled-permit : (s : ℕ) (p : Given) → plan ≡ Permit s f → Gives (q .permits) s p → q′ ≡ withPermits (p .permits) (withFree f (withOuts o q)) → what ≡ givenBy (p .number)
+        pub polled-permit : (s i : ℕ) (p : Given) → plan ≡ Permit s f → Gives (q .permits) s p → p .number ≡ GivenNo i → q′ ≡ withPermits (p .permits) (withFree f (withOuts o q)) → what ≡ WGiven i
             → woken ≡ Nobody → retired ≡ NoToken → Turned q (PollOut n t) a q′
-        polled-permit s p e l i x y z =
+        polled-permit s i p e l j m x y z =
             let h = by (Permit s f) e in
-            let b = spare (permitsOf (q .permits)) (slot-spare (h .0) (at (h .0) (h .1)) (h .2) f (h .5)) in
-            let w = number-given (p .number) (b .0) (l .number ∙ b .1) in
-            let l′ : Gives (q .permits) (h .0 .owner) p = subst (λ (j : ℕ). Gives (q .permits) j p) (sym (h .4)) l in
-            turned-as q (PollOut n t) a (withPermits (p .permits) (withFree f (withOuts o q))) q′ i
-            (slot-taken (h .0) (at (h .0) (h .1)) (h .2) f (h .5) o (record { answer = a; queue = withPermits (p .permits) (withFree f (withOuts o q)) }) d
-            (complete-given (withFree f (withOuts o q)) (shaped-taken q n o f snd d) (h .0 .cargo) (h .0 .owner) (h .3) p l′ (b .0) a w
-            (said-as what (WGiven (b .0)) woken Nobody retired NoToken a (x ∙ ap givenBy w) y z u)))
+            turned-as q (PollOut n t) a (withPermits (p .permits) (withFree f (withOuts o q))) q′ m
+            (slot-given q snd n t (h .0) (at (h .0) (h .1)) k g (h .2) f (h .5) (h .3) p (subst (λ (r : ℕ). Gives (q .permits) r p) (sym (h .4)) l) a i o j d
+            (said-as what (WGiven i) woken Nobody retired NoToken a x y z u))
 
         module _ (v : ℕ) (e : plan ≡ Push v f) (r : Ring) (l : (ring.Sound r) × (ring.values r ≡ ring.values (q .values) ++ (v ∷ []))) where
           pushing : (x : Turn) → Notifies (withValues r (withFree f (withOuts o q))) x → Turned q (PollOut n t) (x .answer) (x .queue)
           pushing x y =
               let h = by (Push v f) e in
               let s = shaped-taken q n o f snd d in
-              slot-taken (h .0) (at (h .0) (h .1)) (h .2) f (h .4) o x d
-              (complete-push (withFree f (withOuts o q)) s (h .0 .cargo) (h .0 .owner) v x (h .3) (pushed (withFree f (withOuts o q)) s v r x l y))
+              slot-pushed q snd n t (h .0) (at (h .0) (h .1)) k g (h .2) f (h .4) v o x (h .3) d (pushed (withFree f (withOuts o q)) s v r x l y)
 
           shape : Shaped (withValues r (withFree f (withOuts o q)))
           shape = shaped-pushed (withFree f (withOuts o q)) (shaped-taken q n o f snd d) v r l

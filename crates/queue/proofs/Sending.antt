@@ -4,7 +4,8 @@ use Prim.Native.Nat.{ℕ, _+_, _-_, _<_, _≤_}
 use mathlib.Core.Path.{_≡_, refl, sym, ap, ap₂, _∙_}
 use mathlib.Core.Bool.{Bool, true, false, not, _&&_}
 use mathlib.Core.List.{List, [], _∷_, _++_}
-use mathlib.Core.Option.{Option, none, some}
+use mathlib.Core.Logic.{⊎-elim}
+use mathlib.Core.Option.{some}
 use native.Mathlib.Omega.{arith}
 use borrow.Author.Tests.{eqb-true, leb-false, not-true}
 use lib.Dec.{eqb, ltb, leb}
@@ -35,14 +36,14 @@ use Rattle.side.specs.declared.CalledOne.{CalledOne}
 use Rattle.side.specs.declared.Pended.{Pended}
 use Rattle.side.specs.Meaning.{Deed, sideOf, carried, stageOf, deedOf, viewed, tokenList, wokenTokens}
 use Rattle.side.specs.Calls.{Open, Sees, Opens, openedIf, Ends, Pends, CallsOne}
-use Rattle.model.specs.Table.{Table, lookup, lowest, put, clear, live, of, size, if_then_else_}
+use Rattle.model.specs.Table.{Table, lookup, clear, live, of, if_then_else_}
 use Rattle.model.specs.Side as side
 use Rattle.model.specs.Queue as model
 use Rattle.model.specs.declared.Call.the-variants.{PollOut, CancelOut, PermitSend, PermitDrop}
 use Rattle.model.specs.Calls.{step, openOut}
-use Rattle.model.proofs.TableLaws.{is-live, lowest-none}
+use Rattle.model.proofs.TableLaws.{is-live}
 use Rattle.model.proofs.TableLaws.{of-le}
-use Rattle.model.proofs.Leaves.{openOut-dead, openOut-wrongKind, openOut-full, openOut-given, pollOut-dead, pollOut-gone, pollOut-granted, pollOut-room, pollOut-pending}
+use Rattle.model.proofs.Leaves.{givePermit-given, givePermit-short, openOut-dead, openOut-wrongKind, openOut-full, openOut-given, pollOut-dead, pollOut-gone, pollOut-granted, pollOut-room, pollOut-pending}
 use Rattle.model.proofs.Leaves.{cancelOut-dead, cancelOut-granted, cancelOut-other, permitSend-dead, permitSend-gone, permitSend-sent, permitDrop-dead, permitDrop-live}
 use Rattle.queue.specs.declared.Queue.{Queue}
 use Rattle.queue.specs.declared.available.Available.{Available}
@@ -53,8 +54,8 @@ use Rattle.queue.specs.declared.Turn.{Turn}
 use Rattle.queue.specs.Meaning.{roomOf, queueOf, Shaped, Sound}
 use Rattle.queue.specs.Answers.{codeOf, fieldOf, resultOf}
 use Rattle.queue.specs.Promise.{Turned}
-use Rattle.queue.specs.Steps.{Says, opening, ready}
-use Rattle.queue.proofs.Moves.{Notifies, Pushes, Releases, releasing, Completes}
+use Rattle.queue.specs.Steps.{Says, opening, ready, Slot}
+use Rattle.queue.proofs.Moves.{Notifies, Pushes, Releases, releasing}
 use Rattle.queue.proofs.Settled.{kept, stays, moves, does, withValues, withFree, withPermits, withOuts, withIns}
 use Rattle.queue.proofs.Settled.{shaped-values, shaped-free, shaped-permits, shaped-outs, shaped-ins, dead, alive, none-left, some-left, slot-left, reserved-counted}
 
@@ -169,68 +170,6 @@ module _ (q : Queue) (s : Shaped q) where
             };
           }
 
-  -- ---- complete
-  module _ (c : Cargo) (owner : ℕ) where
-    pub complete-push : (v : ℕ) (r : Turn) → c ≡ CValue v → Pushes v q r → Completes c owner q r
-    complete-push v r e u =
-        record {
-          does = record {
-            shaped = u .does .shaped;
-            is = u .does .is ∙ sym (ap (λ (z : Cargo). model.complete (carried z) owner (queueOf q) (queueOf q)) e);
-          };
-        }
-
-    module _ (e : c ≡ Nothing) (g : Given) (k : Gives (q .permits) owner g) where
-      given : ℕ → model.Result
-      given n = model.reply model.GIVEN (n ∷ []) [] [] (model.setPermits (put (permitsOf (q .permits)) n owner) (queueOf q))
-
-      by-number : (o : Option ℕ) → o ≡ lowest (permitsOf (q .permits)) → model.complete (carried c) owner (queueOf q) (queueOf q) ≡ model.giveOf o (queueOf q) given
-      unfolding given
-      by-number o f = ap (λ (z : Cargo). model.complete (carried z) owner (queueOf q) (queueOf q)) e ∙ ap (λ (z : Option ℕ). model.giveOf z (queueOf q) given) (sym f)
-
-      pub complete-given : (p : ℕ) (a : Answer) → g .number ≡ GivenNo p → Says (WGiven p) [] [] a → Completes c owner q (record { answer = a; queue = withPermits (g .permits) q })
-      unfolding given
-      complete-given p a f u =
-          record {
-            does = record {
-              shaped = shaped-permits q s (g .permits) (k .sound);
-              is =
-                  beside (WGiven p) [] [] a (withPermits (g .permits) q) u
-                  ∙ (ap (λ (x : Table ℕ). model.reply model.GIVEN (p ∷ []) [] [] (model.setPermits x (queueOf q))) (k .permits ∙ ap (λ (z : Number). putIf (numbered z) owner (permitsOf (q .permits))) f)
-                  ∙ sym (by-number (some p) (sym (ap numbered f) ∙ k .number)));
-            };
-          }
-
--- ---- a permit's number is always to be had, so that completing is no refusal
-pub spare : (t : Table ℕ) → live t < size t → (n : ℕ) × (lowest t ≡ some n)
-spare t h = by (lowest t) refl
-  where
-    by : (o : Option ℕ) → lowest t ≡ o → (n : ℕ) × (lowest t ≡ some n)
-    by none e = absurd (omega (arith, lowest-none t e))
-    by (some n) e = (n, e)
-
-module _ (j : model.Job) (s : ℕ) (q after : model.Queue) (same : after .permits ≡ q .permits) (h : live (q .permits) < size (q .permits)) where
-  -- it does not matter which of the two gives the permit
-  pub complete-either : model.complete j s after after ≡ model.complete j s q after
-  complete-either = by j
-    where
-      by : (x : model.Job) → model.complete x s after after ≡ model.complete x s q after
-      by model.bare =
-          let n = spare (q .permits) h in
-          ap (λ (o : Option ℕ). model.giveOf o after (λ k. model.reply model.GIVEN (k ∷ []) [] [] (model.setPermits (put (after .permits) k s) after))) (ap lowest same ∙ n .1)
-          ∙ (ap (λ (p : Table ℕ). model.reply model.GIVEN (n .0 ∷ []) [] [] (model.setPermits (put p (n .0) s) after)) same
-          ∙ sym (ap (λ (o : Option ℕ). model.giveOf o q (λ k. model.reply model.GIVEN (k ∷ []) [] [] (model.setPermits (put (q .permits) k s) after))) (n .1)))
-      by (model.carrying v) = refl
-
-  pub complete-good : ltb (model.complete j s after after .ans .code) 20 ≡ true
-  complete-good = ap (λ (r : model.Result). ltb (r .ans .code) 20) complete-either ∙ by j
-    where
-      by : (x : model.Job) → ltb (model.complete x s q after .ans .code) 20 ≡ true
-      by model.bare =
-          let n = spare (q .permits) h in
-          ap (λ (o : Option ℕ). ltb (model.giveOf o q (λ k. model.reply model.GIVEN (k ∷ []) [] [] (model.setPermits (put (q .permits) k s) after)) .ans .code) 20) (n .1)
-      by (model.carrying v) = refl
-
 -- the ring has room where a slot is free; on an unbounded queue that is a test of its own
 pub room-free : (q : Queue) → Sound q → (live (handlesOf (q .receivers)) ≡ 0 → ⊥) → model.noFree (queueOf q) ≡ false → model.ringFull (queueOf q) ≡ false → length (ring.values (q .values)) < 64
 room-free q snd z g h = by (model.isUnbounded (queueOf q)) refl
@@ -326,22 +265,11 @@ module _ (q : Queue) (snd : Sound q) (n t : ℕ) (e : Entry) (sees : Sees (q .ou
         let v = ap (of (λ (op : Deed). side.isCalled (op .stage))) found in
         omega (arith, p, w, v)
 
-    pub room-granted : (o : Side) → b ≡ true → length (ring.values (q .values)) < 64
-    room-granted o y =
+    pub room-granted : b ≡ true → length (ring.values (q .values)) < 64
+    room-granted y =
         let i = kept q snd in
         let p : 0 < live (handlesOf (q .receivers)) = omega arith in
         omega (arith, granted y, i .account .room p, i .sizes .capacity)
-
-    pub poll-granted : (o : Side) (r : Turn) → b ≡ true → Ends (q .outs) n o → Completes (e .cargo) (e .owner) (withOuts o q) r → Turned q (PollOut n t) (r .answer) (r .queue)
-    unfolding step
-    poll-granted o r y x u =
-        let i = kept q snd in
-        let p : 0 < live (handlesOf (q .receivers)) = omega arith in
-        let w : live (permitsOf (q .permits)) < size (permitsOf (q .permits)) = omega (arith, granted y, i .account .room p, i .sizes .capacity, i .sizes .permits) in
-        does q (PollOut n t) _ r snd (u .does) (complete-good (carried (e .cargo)) (e .owner) (queueOf q) (queueOf (withOuts o q)) refl w)
-        (complete-either (carried (e .cargo)) (e .owner) (queueOf q) (queueOf (withOuts o q)) refl w
-        ∙ (ap (λ (y : model.Queue). model.complete (carried (e .cargo)) (e .owner) (queueOf q) y) (rest-is o x)
-        ∙ sym (pollOut-granted n t (queueOf q) (deedOf e) found some-receiver (sym h ∙ y))))
 
     module _ (c : b ≡ false) (b2 : Bool) (j : b2 ≡ ready (stageOf (e .stage)) (roomOf (q .free .room))) where
       -- an open operation, so slots are counted, and one is free
@@ -354,24 +282,54 @@ module _ (q : Queue) (snd : Sound q) (n t : ℕ) (e : Entry) (sees : Sees (q .ou
           let p : 0 < live (handlesOf (q .receivers)) = omega arith in
           omega (arith, ready-left d, i .account .room p, i .sizes .capacity)
 
-      pub spare-ready : b2 ≡ true → live (permitsOf (q .permits)) < size (permitsOf (q .permits))
-      spare-ready d = let i = kept q snd in omega (arith, ready-left d, i .account .fits, i .sizes .capacity, i .sizes .permits)
-
-      pub poll-room : (o : Side) (r : Turn) (f : Available) → roomOf (f .room) ≡ model.recount (λ m. m - 1) (roomOf (q .free .room)) → b2 ≡ true → Ends (q .outs) n o
-          → Completes (e .cargo) (e .owner) (withFree f (withOuts o q)) r → Turned q (PollOut n t) (r .answer) (r .queue)
-      unfolding step
-      poll-room o r f m d x u =
-          does q (PollOut n t) _ r snd (u .does) (complete-good (carried (e .cargo)) (e .owner) (queueOf q) (queueOf (withFree f (withOuts o q))) refl (spare-ready d))
-          (complete-either (carried (e .cargo)) (e .owner) (queueOf q) (queueOf (withFree f (withOuts o q))) refl (spare-ready d)
-          ∙ (ap₂ (λ (z : model.Room) (y : model.Queue). model.complete (carried (e .cargo)) (e .owner) (queueOf q) (model.setFree z y)) m (rest-is o x)
-          ∙ sym (pollOut-room n t (queueOf q) (deedOf e) found some-receiver (sym h ∙ c) (sym j ∙ d))))
-
       pub poll-pending : (p : Pended) (a : Answer) → b2 ≡ false → Pends (q .outs) n t p → Says Pending [] (tokenList (p .retired)) a → Turned q (PollOut n t) a (withOuts (p .side) q)
       unfolding step
       poll-pending p a d x u =
           moves q (PollOut n t) Pending [] (tokenList (p .retired)) a (withOuts (p .side) q) snd (shaped-outs q (snd .shaped) (p .side) (x .sound)) u refl
           (ap₂ (λ (l : List ℕ) (y : side.Side model.Job). model.reply model.PENDING [] [] l (model.setOuts y (queueOf q))) (x .retired (deedOf e) found) (x .side (deedOf e) found)
           ∙ sym (pollOut-pending n t (queueOf q) (deedOf e) found some-receiver (sym h ∙ c) (sym j ∙ d)))
+
+  -- ---- the operation has its slot, its grant or one of the free ones: it comes to what the definition's `complete` does
+  module _ (z : k ≡ 0 → ⊥) (f : Available) (w : Slot e (q .free) f) where
+    -- the queue without the operation, and this free room
+    after : model.Queue
+    after = model.setFree (roomOf (f .room)) (model.setOuts (side.ended n (sideOf (q .outs))) (queueOf q))
+
+    completes : step (PollOut n t) (queueOf q) ≡ model.complete (carried (e .cargo)) (e .owner) (queueOf q) after
+    unfolding step after
+    completes =
+        ⊎-elim
+        (λ x. pollOut-granted n t (queueOf q) (deedOf e) found (some-left (handlesOf (q .receivers)) k g z) (x .0)
+        ∙ ap (λ (r : Available). model.complete (carried (e .cargo)) (e .owner) (queueOf q) (model.setFree (roomOf (r .room)) (model.setOuts (side.ended n (sideOf (q .outs))) (queueOf q)))) (sym (x .1)))
+        (λ x. pollOut-room n t (queueOf q) (deedOf e) found (some-left (handlesOf (q .receivers)) k g z) (x .0) (x .1)
+        ∙ ap (λ (r : model.Room). model.complete (carried (e .cargo)) (e .owner) (queueOf q) (model.setFree r (model.setOuts (side.ended n (sideOf (q .outs))) (queueOf q)))) (sym (x .2)))
+        w
+
+    pub slot-room : length (ring.values (q .values)) < 64
+    slot-room = ⊎-elim (λ x. room-granted z _ refl (x .0)) (λ x. room-ready z _ refl (x .0) _ refl (x .1)) w
+
+    by-cargo : (c : Cargo) → e .cargo ≡ c → step (PollOut n t) (queueOf q) ≡ model.complete (carried c) (e .owner) (queueOf q) after
+    by-cargo c h = completes ∙ ap (λ (x : Cargo). model.complete (carried x) (e .owner) (queueOf q) after) h
+
+    pub slot-pushed : (v : ℕ) (o : Side) (r : Turn) → e .cargo ≡ CValue v → Ends (q .outs) n o → Pushes v (withFree f (withOuts o q)) r → Turned q (PollOut n t) (r .answer) (r .queue)
+    unfolding after
+    slot-pushed v o r h x u =
+        does q (PollOut n t) _ r snd (u .does) refl
+        (ap (λ (y : side.Side model.Job). model.doneBy (model.push v (model.setFree (roomOf (f .room)) (model.setOuts y (queueOf q))))) (x .side)
+        ∙ sym (by-cargo (CValue v) h))
+
+    module _ (h : e .cargo ≡ Nothing) (p : Given) (l : Gives (q .permits) (e .owner) p) (a : Answer) where
+      pub slot-given : (i : ℕ) (o : Side) → p .number ≡ GivenNo i → Ends (q .outs) n o → Says (WGiven i) [] [] a → Turned q (PollOut n t) a (withPermits (p .permits) (withFree f (withOuts o q)))
+      unfolding after
+      slot-given i o j x u =
+          moves q (PollOut n t) (WGiven i) [] [] a (withPermits (p .permits) (withFree f (withOuts o q))) snd
+          (shaped-permits (withFree f (withOuts o q)) (shaped-free (withOuts o q) (shaped-outs q (snd .shaped) o (x .sound)) f) (p .permits) (l .sound)) u refl
+          (ap₂ (λ (y : Table ℕ) (m : side.Side model.Job). model.reply model.GIVEN (i ∷ []) [] [] (model.setPermits y (model.setFree (roomOf (f .room)) (model.setOuts m (queueOf q)))))
+          (l .permits ∙ ap (λ (m : Number). putIf (numbered m) (e .owner) (permitsOf (q .permits))) j) (x .side)
+          ∙ sym (by-cargo Nothing h ∙ givePermit-given (e .owner) (queueOf q) after i (sym (l .number) ∙ ap numbered j)))
+
+      pub slot-short : p .number ≡ NoNumber → Says NoRoom [] [] a → Turned q (PollOut n t) a q
+      slot-short j u = stays q (PollOut n t) NoRoom a snd u (sym (by-cargo Nothing h ∙ givePermit-short (e .owner) (queueOf q) after (sym (l .number) ∙ ap numbered j)))
 
 -- the parts of the queue without the operation stay sound
 pub shaped-ended : (q : Queue) (n : ℕ) (o : Side) → Sound q → Ends (q .outs) n o → Shaped (withOuts o q)

@@ -9,8 +9,6 @@ use native.Mathlib.Omega.{arith}
 use borrow.Author.Tests.{eqb-false}
 use lib.Dec.{leb}
 use lib.ListN.{length}
-use mir.Val.{Fits}
-use mir.Syntax.{w8}
 use Rattle.ring.specs.declared.Ring.{Ring}
 use Rattle.ring.specs.Values as ring
 use Rattle.waitlist.specs.View.{isNil}
@@ -19,7 +17,7 @@ use Rattle.tables.specs.declared.Number.the-variants.{NoRoom as NoNumber, Given
 use Rattle.tables.specs.declared.Permits.{Permits}
 use Rattle.tables.specs.declared.Given.{Given}
 use Rattle.tables.specs.Meaning.{handlesOf, permitsOf, isLive, numbered}
-use Rattle.tables.specs.Calls.{Gives, Drops}
+use Rattle.tables.specs.Calls.{putIf, Gives, Drops}
 use Rattle.side.specs.declared.Cargo.{Cargo}
 use Rattle.side.specs.declared.Cargo.the-variants.{Nothing, Value as CValue}
 use Rattle.side.specs.declared.OptToken.the-variants.{NoToken}
@@ -28,25 +26,25 @@ use Rattle.side.specs.declared.Woken.the-variants.{Nobody}
 use Rattle.side.specs.declared.CalledOne.{CalledOne}
 use Rattle.side.specs.Meaning.{sideOf, carried, wokenTokens}
 use Rattle.side.specs.Calls.{CallsOne}
-use Rattle.model.specs.Table.{lookup, live, size, if_then_else_}
+use Rattle.model.specs.Table.{Table, lookup, live, if_then_else_}
 use Rattle.model.specs.Queue as model
 use Rattle.model.specs.declared.Call.the-variants.{TrySend, TryRes, PermitSend, PermitDrop}
 use Rattle.model.specs.Calls.{step, trySend, tryRes}
+use Rattle.model.proofs.Leaves.{givePermit-given, givePermit-short}
 use Rattle.queue.specs.declared.Queue.{Queue}
 use Rattle.queue.specs.declared.available.Available.{Available}
 use Rattle.queue.specs.declared.What.{What}
-use Rattle.queue.specs.declared.What.the-variants.{Done, Given as WGiven, Full, Disconnected, NoHandle, RingFull, WrongKind}
+use Rattle.queue.specs.declared.What.the-variants.{Done, Given as WGiven, Full, Disconnected, NoHandle, NoRoom, RingFull, WrongKind}
 use Rattle.queue.specs.declared.Answer.{Answer}
 use Rattle.queue.specs.declared.Turn.{Turn}
 use Rattle.queue.specs.Meaning.{roomOf, queueOf, Shaped, Sound}
 use Rattle.queue.specs.Answers.{codeOf, fieldOf}
 use Rattle.queue.specs.Promise.{Turned}
-use Rattle.queue.specs.Steps.{Says, isDone, tried, sends, reserves, givenBy}
+use Rattle.queue.specs.Steps.{Says, isDone, tried, sends, reserves}
 use Rattle.queue.proofs.Moves.{Pushes}
-use Rattle.queue.proofs.Settled.{kept, stays, does, turned-as, said-as, withValues, withFree, withPermits, withOuts, withIns}
-use Rattle.queue.proofs.Settled.{shaped-free, owner-fits, none-left, some-left, slot-left}
+use Rattle.queue.proofs.Settled.{stays, moves, does, turned-as, said-as, withValues, withFree, withPermits, withOuts, withIns}
+use Rattle.queue.proofs.Settled.{shaped-free, shaped-permits, none-left, some-left}
 use Rattle.queue.proofs.Sending.{notify-nobody, notify-one, pushed, shaped-pushed, release-gone, release-free, release-grant, room-free}
-use Rattle.queue.proofs.Sending.{complete-given, spare, complete-either, complete-good}
 use Rattle.queue.proofs.Sending.{permit-dead, permit-gone, permit-sent, room-permit, shaped-closed, drop-dead, drop-done}
 
 -- ---- sendable: by its tests
@@ -211,12 +209,6 @@ module _ (q : Queue) (snd : Sound q) (s : ℕ) (what : What) (e : what ≡ reser
   pub free-reserved : model.noneOf (roomOf (q .free .room)) ≡ false
   free-reserved = res-found .0 .free
 
-  pub owner-reserved : Fits w8 s
-  owner-reserved = owner-fits (q .senders) s (isLive (lookup (handlesOf (q .senders)) s)) (snd .shaped .senders) refl (res-found .0 .known)
-
-  spare-reserved : live (permitsOf (q .permits)) < size (permitsOf (q .permits))
-  spare-reserved = let i = kept q snd in omega (arith, slot-left q snd (res-found .1) (res-found .0 .free), i .account .fits, i .sizes .capacity, i .sizes .permits)
-
 -- ---- a value was pushed onto q: nobody waits in the line, or its first is called
 module _ (q : Queue) (shaped : Shaped q) (v : ℕ) (x : Ring) (k : (ring.Sound x) × (ring.values x ≡ ring.values (q .values) ++ (v ∷ [])))
     (what : What) (y : what ≡ Done) (woken : Woken) (a : Answer) (u : Says what (wokenTokens woken) [] a) where
@@ -259,37 +251,38 @@ module _ (q : Queue) (snd : Sound q) (s v : ℕ) (what : What) (e : what ≡ sen
         (sent (record { answer = a; queue = withIns (o .side) (withValues x (withFree g q)) })
         (push-called (withFree g q) (shaped-free q (snd .shaped) g) v x k what (is-done q snd (CValue v) s what e b f d) woken a u o h w))
 
--- ---- given, try_res
-pub given-some : (x : Number) (n : ℕ) → x ≡ GivenNo n → WGiven n ≡ givenBy x
-given-some x n e = sym (ap givenBy e)
-
-given-number : (x : Number) (n : ℕ) → numbered x ≡ some n → x ≡ GivenNo n
-given-number NoNumber n e = let z : _≡_ {A = ℕ} 0 1 = cc in absurd (omega arith)
-given-number (GivenNo m) n e = let z : m ≡ n = cc in ap GivenNo z
-
+-- ---- try_res
 module _ (q : Queue) (snd : Sound q) (s : ℕ) (what : What) (e : what ≡ reserves s (queueOf q)) (b : Bool) (f : b ≡ isDone what)
     (what′ : What) (a : Answer) (u : Says what′ [] [] a) (q′ : Queue) where
+  says-so : (w : What) → what′ ≡ w → Says w [] [] a
+  says-so w y = subst (λ (z : What). Says z [] [] a) y u
+
   pub res-not : b ≡ false → q′ ≡ q → what′ ≡ what → Turned q (TryRes s) a q′
   res-not d x w =
       turned-as q (TryRes s) a q q′ x
-      (stays q (TryRes s) what a snd (subst (λ (z : What). Says z [] [] a) w u)
+      (stays q (TryRes s) what a snd (says-so what w)
       (ap (λ (z : What). model.reply (codeOf z) (fieldOf z) [] [] (queueOf q)) e
       ∙ reserved-by s (queueOf q) false (is-decided (reserves s (queueOf q)) what e b f false d)))
 
-  pub res-taken : b ≡ true → (l : Available) → roomOf (l .room) ≡ model.recount (λ n. n - 1) (roomOf (q .free .room)) → (o : Given) → Gives (q .permits) s o → (w : What) → w ≡ givenBy (o .number)
-      → q′ ≡ withPermits (o .permits) (withFree l q) → what′ ≡ w → Turned q (TryRes s) a q′
-  res-taken d l j o k w g x y =
-      let h = spare-reserved q snd s what e b f d in
-      let n = spare (permitsOf (q .permits)) h in
-      let m : o .number ≡ GivenNo (n .0) = given-number (o .number) (n .0) (k .number ∙ n .1) in
-      let said : Says (WGiven (n .0)) [] [] a = subst (λ (z : What). Says z [] [] a) (y ∙ (g ∙ ap givenBy m)) u in
-      turned-as q (TryRes s) a (withPermits (o .permits) (withFree l q)) q′ x
-      (does q (TryRes s) _ (record { answer = a; queue = withPermits (o .permits) (withFree l q) }) snd
-      (complete-given (withFree l q) (shaped-free q (snd .shaped) l) Nothing s refl o k (n .0) a m said .does)
-      (complete-good model.bare s (queueOf q) (queueOf (withFree l q)) refl h)
-      (complete-either model.bare s (queueOf q) (queueOf (withFree l q)) refl h
-      ∙ (ap (λ (z : model.Room). model.givePermit s (queueOf q) (model.setFree z (queueOf q))) j
-      ∙ reserved-by s (queueOf q) true (is-decided (reserves s (queueOf q)) what e b f true d))))
+  module _ (d : b ≡ true) (o : Given) (k : Gives (q .permits) s o) where
+    permitted : model.givePermit s (queueOf q) (model.acquire (queueOf q)) ≡ step (TryRes s) (queueOf q)
+    permitted = reserved-by s (queueOf q) true (is-decided (reserves s (queueOf q)) what e b f true d)
+
+    pub res-given : (p : ℕ) (l : Available) → o .number ≡ GivenNo p → roomOf (l .room) ≡ model.recount (λ n. n - 1) (roomOf (q .free .room))
+        → q′ ≡ withPermits (o .permits) (withFree l q) → what′ ≡ WGiven p → Turned q (TryRes s) a q′
+    res-given p l g j x y =
+        turned-as q (TryRes s) a (withPermits (o .permits) (withFree l q)) q′ x
+        (moves q (TryRes s) (WGiven p) [] [] a (withPermits (o .permits) (withFree l q)) snd
+        (shaped-permits (withFree l q) (shaped-free q (snd .shaped) l) (o .permits) (k .sound)) (says-so (WGiven p) y) refl
+        (ap₂ (λ (m : Table ℕ) (r : model.Room). model.reply model.GIVEN (p ∷ []) [] [] (model.setPermits m (model.setFree r (queueOf q))))
+        (k .permits ∙ ap (λ (z : Number). putIf (numbered z) s (permitsOf (q .permits))) g) j
+        ∙ (sym (givePermit-given s (queueOf q) (model.acquire (queueOf q)) p (sym (k .number) ∙ ap numbered g)) ∙ permitted)))
+
+    pub res-short : o .number ≡ NoNumber → q′ ≡ q → what′ ≡ NoRoom → Turned q (TryRes s) a q′
+    res-short g x y =
+        turned-as q (TryRes s) a q q′ x
+        (stays q (TryRes s) NoRoom a snd (says-so NoRoom y)
+        (sym (givePermit-short s (queueOf q) (model.acquire (queueOf q)) (sym (k .number) ∙ ap numbered g)) ∙ permitted))
 
 -- ---- permit_send, permit_drop
 module _ (q : Queue) (snd : Sound q) (p : ℕ) (b : Bool) (e : b ≡ isLive (lookup (permitsOf (q .permits)) p)) where

@@ -7,14 +7,11 @@ use mathlib.Core.Option.{Option, none, some}
 use native.Mathlib.Omega.{arith}
 use borrow.Author.Tests.{eq-eqb, ne-eqb, eqb-false, ltb-true, not-true, not-false}
 use lib.Dec.{eqb, ltb}
-use mir.Val.{Fits}
-use mir.Syntax.{w8}
 use Rattle.ring.specs.declared.Ring.{Ring}
 use Rattle.ring.specs.Values as ring
 use Rattle.tables.specs.declared.Handles.{Handles}
 use Rattle.tables.specs.declared.Permits.{Permits}
 use Rattle.tables.specs.Meaning.{handlesOf, isLive, HandlesSound, PermitsSound}
-use Rattle.tables.proofs.Laws.{handle-small}
 use Rattle.side.specs.declared.Side.{Side}
 use Rattle.side.specs.declared.Entry.{Entry}
 use Rattle.side.specs.declared.View.the-variants.{Found}
@@ -159,9 +156,13 @@ module _ {A : Type 0} (o : Option A) (b : Bool) (e : b ≡ isLive o) where
       by none g = let z : _≡_ {A = ℕ} 0 1 = cc in absurd (omega arith)
       by (some a) g = (a, refl)
 
--- a live handle's number fits the byte in which a record keeps its owner
-pub owner-fits : (h : Handles) (n : ℕ) (b : Bool) → HandlesSound h → b ≡ isLive (lookup (handlesOf h) n) → b ≡ true → Fits w8 n
-owner-fits h n b s e d = let l = alive (lookup (handlesOf h) n) b e (ap not d) in record { fits = omega (arith, handle-small h s n (l .0) (l .1)) }
+-- so a number that passed the test is live
+module _ {A : Type 0} (o : Option A) (b : Bool) (e : b ≡ isLive o) where
+  pub known : b ≡ true → isLive o ≡ true
+  known d = sym e ∙ d
+
+  pub not-unknown : not b ≡ false → isLive o ≡ true
+  not-unknown d = sym e ∙ not-false b d
 
 -- what a count and a test tell
 module _ {A : Type 0} (t : Table A) (n : ℕ) (e : n ≡ live t) where

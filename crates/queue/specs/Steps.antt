@@ -127,11 +127,6 @@ sends c s q = tried c (isLive (lookup (q .senders) s)) (model.noReceiver q) (mod
 unfoldable pub reserves : ℕ → model.Queue → What
 reserves s q = if isLive (lookup (q .senders) s) && model.isUnbounded q then WrongKind else sends Nothing s q
 
--- ---- the answer to a call that asks for a number
-abbrev pub givenBy : Number → What
-givenBy NoNumber = NoRoom
-givenBy (GivenNo n) = WGiven n
-
 -- ---- what a poll of an outgoing operation comes to
 -- an operation that has its slot, by what it carries; `rest` is the free room that is left
 abbrev pub withSlot : Cargo → ℕ → Available → Outcome

@@ -64,8 +64,7 @@ impl Queue {
         let mut what = What::NoHandle;
         if receivers.has(r) {
             let ins = self.ins;
-            let owner = r as u8;
-            let opened = ins.open(owner, Cargo::Nothing);
+            let opened = ins.open(r, Cargo::Nothing);
             let number = opened.number;
             match number {
                 Number::NoRoom => {

@@ -25,17 +25,17 @@ ghost use Rattle.queue.specs.Meaning.{Sound};
 ghost use Rattle.queue.specs.Promise.{Turned, Made};
 ghost use Rattle.queue.specs.Steps.{Blank};
 
-// Only the makes and the calls give a queue, and nobody else reads or writes its fields. Their order is for speed: with the two sides side by side
-// the compiler copies less, and the calls of a loop fit into it.
+// Only the makes and the calls give a queue, and nobody else reads or writes its fields. Their order is for speed: what calls seldom touch lies
+// together and is copied in one piece.
 pub struct Queue {
-    capacity: u32,
     outs: Side,
     ins: Side,
-    senders: Handles,
-    receivers: Handles,
-    free: Available,
-    values: Ring,
     permits: Permits,
+    receivers: Handles,
+    senders: Handles,
+    free: Available,
+    capacity: u32,
+    values: Ring,
 }
 
 // A bounded queue counts its free slots; an unbounded one has no room to count.

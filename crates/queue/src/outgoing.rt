@@ -21,7 +21,7 @@ ghost use Rattle.model.specs.Queue as model;
 ghost use Rattle.model.specs.declared.Call.the-variants.{TrySend, TryRes, Reserve, Send, PollOut, CancelOut, PermitSend, PermitDrop};
 ghost use Rattle.queue.specs.Meaning.{roomOf, queueOf, Shaped, Sound};
 ghost use Rattle.queue.specs.Promise.{Turned};
-ghost use Rattle.queue.specs.Steps.{opening, ready, isDone, sends, reserves, givenBy, withSlot, Comes};
+ghost use Rattle.queue.specs.Steps.{opening, ready, isDone, sends, reserves, withSlot, Comes};
 
 // May an operation at this stage take a free slot? Not one that waits in line.
 fn is_ready(stage: Stage, free: Available) -> bool
@@ -40,13 +40,13 @@ fn is_ready(stage: Stage, free: Available) -> bool
 enum Outcome {
     NoHandle,
     Gone(Cargo),
-    Permit { owner: u8, free: Available },
+    Permit { owner: u32, free: Available },
     Push { value: u32, free: Available },
     Stays,
 }
 
 // An operation that has its slot: a reserve comes to a permit of its sender, a send to a push.
-fn with_slot(cargo: Cargo, owner: u8, free: Available) -> Outcome
+fn with_slot(cargo: Cargo, owner: u32, free: Available) -> Outcome
     ensures { λ r. ⌜ r ≡ withSlot cargo owner free ⌝ }
 {
     match cargo {
@@ -109,16 +109,6 @@ fn is_done(what: What) -> bool
         What::NoRoom => false,
         What::RingFull => false,
         What::WrongKind => false,
-    }
-}
-
-// The answer to a call that asks for a number.
-fn given(number: Number) -> What
-    ensures { λ r. ⌜ r ≡ givenBy number ⌝ }
-{
-    match number {
-        Number::NoRoom => What::NoRoom,
-        Number::Given(n) => What::Given(n),
     }
 }
 
@@ -210,15 +200,21 @@ impl Queue {
     {
         let mut what = self.reservable(s);
         if is_done(what) {
-            let free = self.free;
-            self.free = free.less();
-            let owner = s as u8;
             let permits = self.permits;
-            let opened = permits.open(owner);
+            let opened = permits.open(s);
             let number = opened.number;
-            let table = opened.permits;
-            self.permits = table;
-            what = given(number);
+            match number {
+                Number::NoRoom => {
+                    what = What::NoRoom;
+                }
+                Number::Given(p) => {
+                    let free = self.free;
+                    self.free = free.less();
+                    let table = opened.permits;
+                    self.permits = table;
+                    what = What::Given(p);
+                }
+            }
         }
         let answer = plain(what);
         Turn {
@@ -241,8 +237,7 @@ impl Queue {
                 what = What::WrongKind;
             } else {
                 let outs = self.outs;
-                let owner = s as u8;
-                let opened = outs.open(owner, cargo);
+                let opened = outs.open(s, cargo);
                 let number = opened.number;
                 match number {
                     Number::NoRoom => {
@@ -277,7 +272,7 @@ impl Queue {
         self.open_out(s, Cargo::Value(v))
     }
 
-    // What it comes to is told first, from what is only read. (A permit's number is always to be had.)
+    // What it comes to is told first, from what is only read. Where no number is left for a permit, everything stays as it is.
     pub fn poll_out(mut self, n: u32, token: u32) -> Turn
         requires { ⌜ Sound self ⌝ }
         ensures { λ r. ⌜ Turned self (PollOut n token) (r .answer) (r .queue) ⌝ }
@@ -298,14 +293,21 @@ impl Queue {
                 what = What::Disconnected(cargo);
             }
             Outcome::Permit { owner, free } => {
-                self.outs = outs.end(n);
-                self.free = free;
                 let permits = self.permits;
                 let opened = permits.open(owner);
                 let number = opened.number;
-                let table = opened.permits;
-                self.permits = table;
-                what = given(number);
+                match number {
+                    Number::NoRoom => {
+                        what = What::NoRoom;
+                    }
+                    Number::Given(p) => {
+                        self.outs = outs.end(n);
+                        self.free = free;
+                        let table = opened.permits;
+                        self.permits = table;
+                        what = What::Given(p);
+                    }
+                }
             }
             Outcome::Push { value, free } => {
                 self.outs = outs.end(n);

@@ -1,13 +1,13 @@
--- THE LAWS OF A TABLE OF OPERATIONS BESIDE A WAIT LIST. Every move but the last touches one operation n and at most one node i: `Slot` says
--- once what follows of that. Assumes nothing.
+-- THE LAWS OF A TABLE OF OPERATIONS BESIDE A WAIT LIST. Every move but the last touches one operation, at the place n, and at most one node i:
+-- `Only` says once what follows of that. Assumes nothing.
 use Prim.Native.Nat.{ℕ, _<_}
 use mathlib.Core.Path.{_≡_, refl, sym, ap, _∙_, subst}
-use mathlib.Core.List.{List, [], _∷_, _++_, map, List·Memᴰ}
+use mathlib.Core.List.{List, [], _∷_, _++_, List·Memᴰ}
 use mathlib.Core.Option.{Option, none, some}
 use native.Mathlib.Decide.{ℕ-discrete, decLt}
 use native.Mathlib.Omega.{arith}
-use lib.ListN.{length, getD, set, length-map, length-set, List·getD-map}
-use lib.Seq.{ext-getD, getD-set-same, getD-set-other, set-out}
+use lib.ListN.{length, getD, set, length-set}
+use lib.Seq.{getD-set-same, getD-set-other, set-out}
 use Rattle.arena.specs.declared.OptWaiter.{OptWaiter}
 use Rattle.arena.specs.declared.OptWaiter.the-variants.{Nobody, Id}
 use Rattle.arena.specs.declared.Waiter.{Waiter}
@@ -19,12 +19,11 @@ use Rattle.waitlist.specs.View.{waiterId, held, line}
 use Rattle.waitlist.specs.Sound as wait
 use Rattle.waitlist.specs.Owners.{Owned}
 use Rattle.waitlist.proofs.Segs.{same-id, no-id}
-use Rattle.model.specs.Table.{lookup, oneMore, lowest}
 use Rattle.model.specs.Side as model
 use Rattle.side.specs.declared.Mark.{Mark}
 use Rattle.side.specs.declared.Mark.the-variants.{Idle, At, Void}
 use Rattle.side.specs.declared.Op.{Op}
-use Rattle.side.specs.Meaning.{Deed, stageIn, stageBy, deedBy, through, opsOf}
+use Rattle.side.specs.Meaning.{stageIn, stageBy, deedBy}
 use Rattle.side.specs.Sound.{nodeOf, nodeIn, nodeAt, Ties}
 
 pub same-op : (m n : ℕ) (x y : Waiter) → Holding m x ≡ Holding n y → m ≡ n
@@ -33,11 +32,7 @@ same-op m n x y e = cc
 pub not-empty : (n : ℕ) (x : Waiter) → Empty ≡ Holding n x → ⊥
 not-empty n x e = let z : _≡_ {A = ℕ} 0 1 = cc in omega arith
 
--- ---- what stands at a number
-pub look : (t : List (Option Op)) (w : WaitList) (n : ℕ) → lookup (opsOf t w) n ≡ through (deedBy w) (getD t n none)
-look t w n = List·getD-map (through (deedBy w)) t n none
-
--- an operation that is there, by its node and by its deed
+-- ---- an operation that is there, by its node
 pub mark-at : (m : Mark) (i : ℕ) → nodeOf m ≡ Id (waiterId i) → m ≡ At (waiterId i)
 mark-at Idle i q = absurd (no-id i q)
 mark-at (At id) i q = cc
@@ -58,22 +53,16 @@ node-waits w (At id) k e = let b = by (held w (id .0 .0)) e in (id .0 .0, refl, 
     by (Holding op Called) q = let z : _≡_ {A = ℕ} 0 1 = cc in absurd (omega arith)
 node-waits w Void k e = let z : _≡_ {A = ℕ} 0 1 = cc in absurd (omega arith)
 
-pub with-deed : (w : WaitList) (o : Option Op) (d : Deed) → through (deedBy w) o ≡ some d → (op : Op) × (o ≡ some op) × (deedBy w op ≡ d)
-with-deed w none d e = let z : _≡_ {A = ℕ} 0 1 = cc in absurd (omega arith)
-with-deed w (some op) d e = (op, refl, cc)
-
 -- an operation whose node holds what it held is as it was
 stage-kept : (w w' : WaitList) (m : Mark) → ((i : ℕ) → nodeOf m ≡ Id (waiterId i) → held w' i ≡ held w i) → stageBy w' m ≡ stageBy w m
 stage-kept w w' Idle h = refl
 stage-kept w w' (At id) h = ap stageIn (h (id .0 .0) refl)
 stage-kept w w' Void h = refl
 
-pub deed-kept : (w w' : WaitList) (o : Option Op) → ((i : ℕ) → nodeIn o ≡ Id (waiterId i) → held w' i ≡ held w i) → through (deedBy w') o ≡ through (deedBy w) o
-deed-kept w w' none h = refl
-deed-kept w w' (some op) h =
-    ap (λ (st : model.Stage). some (model.reStage (λ old. st) (deedBy w op))) (stage-kept w w' (op .mark) h)
+deed-kept : (w w' : WaitList) (op : Op) → ((i : ℕ) → nodeOf (op .mark) ≡ Id (waiterId i) → held w' i ≡ held w i) → deedBy w' op ≡ deedBy w op
+deed-kept w w' op h = ap (λ (st : model.Stage). model.reStage (λ old. st) (deedBy w op)) (stage-kept w w' (op .mark) h)
 
--- ---- ONE OPERATION n AND ONE NODE i: every other operation and node is as it was, and node i was n's or nobody's
+-- ---- ONE PLACE n AND ONE NODE i: every other operation and node is as it was, and node i was n's or nobody's
 pub record Only (t t' : List (Option Op)) (w w' : WaitList) (n i : ℕ) : Type 0 where
   pub small : n < 32
   pub sized : length t' ≡ 32
@@ -102,26 +91,9 @@ module _ (t t' : List (Option Op)) (w w' : WaitList) (s : Ties t w) (n i : ℕ) 
       let f = s .owned .forth op k e in
       d (c .was op (f .0) (ap (held w) (sym q) ∙ f .1))
 
-  pub ops-slot : opsOf t' w' ≡ set (opsOf t w) n (through (deedBy w') (getD t' n none))
-  ops-slot =
-      ext-getD none (opsOf t' w') (set (opsOf t w) n new)
-      (length-map t' (through (deedBy w')) ∙ (c .sized ∙ sym (length-set (opsOf t w) n new ∙ wide)))
-      (λ k _. look t' w' k ∙ go k (ℕ-discrete k n))
-    where
-      new : Option Deed
-      new = through (deedBy w') (getD t' n none)
-
-      wide : length (opsOf t w) ≡ 32
-      wide = length-map t (through (deedBy w)) ∙ s .sized
-
-      go : (k : ℕ) → Dec (k ≡ n) → through (deedBy w') (getD t' k none) ≡ getD (set (opsOf t w) n new) k none
-      go k (yes e) =
-          ap (λ (j : ℕ). through (deedBy w') (getD t' j none)) e
-          ∙ (sym (getD-set-same (opsOf t w) n new none (omega (arith, wide, c .small))) ∙ ap (λ (j : ℕ). getD (set (opsOf t w) n new) j none) (sym e))
-      go k (no d) =
-          ap (through (deedBy w')) (c .other k d)
-          ∙ (deed-kept w w' (getD t k none) (λ j e. c .there j (apart k j d e))
-          ∙ (sym (look t w k) ∙ sym (getD-set-other (opsOf t w) n k new none d)))
+  -- every other operation is as it was
+  pub deeds-slot : (k : ℕ) (op : Op) → (k ≡ n → ⊥) → getD t k none ≡ some op → deedBy w' op ≡ deedBy w op
+  deeds-slot k op d e = deed-kept w w' op (λ j q. c .there j (apart k j d (ap nodeIn e ∙ q)))
 
   owned-slot : Link (nodeAt t' n) (held w' i) n i → Owned (nodeAt t') w'
   owned-slot l =
@@ -194,13 +166,6 @@ ties-set t w n o e h s = ties-same t (set t n o) w (length-set t n o ∙ s .size
     go k (yes q) (yes b) = ap (nodeAt (set t n o)) q ∙ (ap nodeIn (getD-set-same t n o none b) ∙ (h ∙ (sym e ∙ ap (nodeAt t) (sym q))))
     go k (yes q) (no b) = ap (λ (l : List (Option Op)). nodeAt l k) (set-out t n o (omega arith))
     go k (no d) _ = ap nodeIn (getD-set-other t n k o none d)
-
--- ---- the lowest free number is that of the records
-module _ {A B : Type 0} (f : A → B) where
-  pub lowest-through : (t : List (Option A)) → lowest (map (through f) t) ≡ lowest t
-  lowest-through [] = refl
-  lowest-through (none ∷ t) = refl
-  lowest-through (some a ∷ t) = ap oneMore (lowest-through t)
 
 -- ---- stages
 pub kept-some : (st : model.Stage) (k : ℕ) → k ∷ [] ≡ model.kept st → st ≡ model.waiting k

@@ -1,5 +1,5 @@
 -- WHAT EACH METHOD OF A SIDE DOES, by the model's move of that name. Assumes nothing.
-use Prim.Native.Nat.{ℕ}
+use Prim.Native.Nat.{ℕ, _%_}
 use mathlib.Core.Path.{_≡_}
 use mathlib.Core.List.{[], _∷_, _++_, map}
 use mathlib.Core.Option.{Option, none, some}
@@ -10,7 +10,7 @@ use Rattle.arena.specs.Lists as lists
 use Rattle.waitlist.specs.declared.WaitList.{WaitList}
 use Rattle.waitlist.specs.declared.Held.{Held}
 use Rattle.waitlist.specs.declared.Held.the-variants.{Empty, Holding}
-use Rattle.waitlist.specs.View.{waiterId, held, line, opOf, along}
+use Rattle.waitlist.specs.View.{waiterId, held, line, along}
 use Rattle.waitlist.specs.Sound as wait
 use Rattle.waitlist.specs.Calls.{Refreshes}
 use Rattle.model.specs.Table.{blank, lookup, put, lowest}
@@ -35,7 +35,7 @@ abbrev pub Open : Side → ℕ → Type 0
 Open s n = (op : Deed) × (lookup (sideOf s .ops) n ≡ some op)
 
 abbrev pub Alone : Side → ℕ → Type 0
-Alone s n = nodeAt (tableOf s) n ≡ Nobody
+Alone s n = nodeAt (tableOf s) (n % 64) ≡ Nobody
 
 pub record Fresh (r : Side) : Type 0 where
   pub sound : Sound r
@@ -72,10 +72,11 @@ pub record CallsOne (s : Side) (r : CalledOne) : Type 0 where
   pub woken : wokenTokens (r .woken) ≡ model.firstToken (sideOf s)
   pub number : wokenOps (r .woken) ≡ take 1 (sideOf s .line)
 
-abbrev pub wokenOf : Held → Woken
-wokenOf Empty = NoOne
-wokenOf (Holding op (Waiting t)) = OneOp op t
-wokenOf (Holding op Called) = NoOne
+-- operation n, whose node held this, was called
+abbrev pub wokenOf : ℕ → Held → Woken
+wokenOf n Empty = NoOne
+wokenOf n (Holding op (Waiting t)) = OneOp n t
+wokenOf n (Holding op Called) = NoOne
 
 -- ---- close_line
 pub record Closes (s : Side) (r : Closed) : Type 0 where
@@ -89,7 +90,7 @@ pub record Leaves (w : WaitList) (i : ℕ) (r : WaitList) : Type 0 where
   pub sound : wait.Sound r
   pub here : held r i ≡ Empty
   pub there : (k : ℕ) → (k ≡ i → ⊥) → held r k ≡ held w k
-  pub ops : along opOf r ≡ map (λ (k : ℕ). opOf (held w k)) (lists.without i (line w))
+  pub reads : (f : Held → ℕ) → along f r ≡ map (λ (k : ℕ). f (held w k)) (lists.without i (line w))
   pub line : line r ≡ lists.without i (line w)
 
 abbrev pub Refreshed : WaitList → Mark → ℕ → WaitList → Type 0

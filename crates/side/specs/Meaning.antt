@@ -1,8 +1,9 @@
 -- THE MEANING OF A SIDE: the model's side, whose job is what an operation carries. Assumes nothing.
-use Prim.Native.Nat.{ℕ}
+use Prim.Native.Nat.{ℕ, _+_, _*_}
 use mathlib.Core.Bool.{Bool, true, false}
-use mathlib.Core.List.{List, [], _∷_, map}
+use mathlib.Core.List.{List, [], _∷_}
 use mathlib.Core.Option.{Option, none, some}
+use lib.ListN.{getD}
 use Rattle.arena.specs.declared.Waiter.the-variants.{Waiting, Called}
 use Rattle.waitlist.specs.declared.WaitList.{WaitList}
 use Rattle.waitlist.specs.declared.Held.{Held}
@@ -10,10 +11,11 @@ use Rattle.waitlist.specs.declared.Held.the-variants.{Empty, Holding}
 use Rattle.waitlist.specs.View.{held, along, opOf}
 use Rattle.live.specs.Bits.{liveOf}
 use Rattle.live.specs.Table.{held as table}
-use Rattle.model.specs.Table.{Table, same}
+use Rattle.model.specs.Table.{Place, vacant, same}
 use Rattle.model.specs.Side as model
 use Rattle.model.specs.Queue.{Job, bare, carrying}
 use Rattle.model.specs.Side.{idle, waiting, called, void}
+use Rattle.tables.specs.Places.{placesOf}
 use Rattle.side.specs.declared.Cargo.{Cargo}
 use Rattle.side.specs.declared.Cargo.the-variants.{Nothing, Value}
 use Rattle.side.specs.declared.Mark.{Mark}
@@ -53,9 +55,23 @@ abbrev pub cargoBy : Bool → ℕ → Cargo
 cargoBy false v = Nothing
 cargoBy true v = Value v
 
--- what stands at a number that was never given (and what a read past the end of the table stands for)
+-- what stands at a place with no operation, of which k turns are over
+abbrev pub blankOp : ℕ → Op
+blankOp k = record { value = 0; owner = 0; turn = k; carries = false; mark = Idle }
+
+-- what stands at a place that was never used (and what a read past the end of the table stands for)
 abbrev pub freshOp : Op
-freshOp = record { value = 0; carries = false; owner = 0; mark = Idle }
+freshOp = blankOp 0
+
+abbrev pub turnOf : Op → ℕ
+turnOf op = op .turn
+
+-- the number of the operation at a place; of the operation that a node belongs to
+abbrev pub numberAt : List Op → ℕ → ℕ
+numberAt ops place = place + 64 * turnOf (getD ops place freshOp)
+
+abbrev pub numberIn : List Op → Held → ℕ
+numberIn ops node = numberAt ops (opOf node)
 
 -- the stage that a node tells (where there is no node: void; never asked of a sound side)
 abbrev pub stageIn : Held → model.Stage
@@ -71,20 +87,20 @@ stageBy w Void = void
 abbrev pub deedBy : WaitList → Op → Deed
 deedBy w op = record { owner = op .owner; job = carried (cargoBy (op .carries) (op .value)); stage = stageBy w (op .mark) }
 
-abbrev pub through : {A B : Type 0} → (A → B) → Option A → Option B
-through f none = none
-through f (some a) = some (f a)
-
--- a table of operations beside a wait list, as the model has it
-abbrev pub opsOf : List (Option Op) → WaitList → Table Deed
-opsOf t w = map (through (deedBy w)) t
-
--- the live operations, each at its number
+-- the live operations, each at its place
 abbrev pub tableOf : Side → List (Option Op)
 tableOf s = table (liveOf (s .live)) (s .ops)
 
 unfoldable pub sideOf : Side → model.Side Job
-sideOf s = record { ops = opsOf (tableOf s) (s .waiters); line = along opOf (s .waiters) }
+sideOf s =
+    record {
+      ops = placesOf turnOf (deedBy (s .waiters)) (liveOf (s .live)) (s .ops);
+      line = along (numberIn (s .ops)) (s .waiters);
+    }
+
+-- a place of the model's table (past the end: one never used)
+abbrev pub placeIn : Side → ℕ → Place Deed
+placeIn s place = getD (sideOf s .ops) place (vacant 0)
 
 -- ---- answers
 abbrev pub stageOf : Stage → model.Stage
@@ -119,7 +135,7 @@ voidMark (At id) = Void
 voidMark Void = Void
 
 abbrev pub voided : Op → Op
-voided op = record { value = op .value; carries = op .carries; owner = op .owner; mark = voidMark (op .mark) }
+voided op = record { value = op .value; owner = op .owner; turn = op .turn; carries = op .carries; mark = voidMark (op .mark) }
 
 -- ---- 1 or 0, as the model's counts take an operation
 abbrev pub counts : Asked → Deed → ℕ

@@ -2,12 +2,12 @@
 // After src/mpmc/queue.rs of asyncband 0.7.4 (the state of Reserve and Recv, and what it does with its wait lists).
 // Its meaning is the `Side` of the model (`sideOf`, specs/Meaning.antt): the table of the open operations and the line by their numbers;
 // each method is the model's move or count of that name (specs/Calls.antt). What ties operations to wait nodes is `Sound` (specs/Sound.antt).
+// A number is an operation's place (0 to 31) + 64 * its turn. Callers name operations by numbers; a wait node holds the place alone, in a byte.
 use arena::OptWaiter;
 use arena::Waiter;
 use arena::WaiterId;
 use live::Live;
 use tables::Number;
-use tables::wide;
 use waitlist::Held;
 use waitlist::WaitList;
 use wakes::Wakes;
@@ -17,10 +17,10 @@ ghost use Prim.Native.Nat.{_<_};
 ghost use lib.Dec.{eqb};
 ghost use lib.ListN.{length};
 ghost use Rattle.waitlist.specs.Sound as wait;
-ghost use Rattle.waitlist.specs.View.{isNil};
+ghost use Rattle.waitlist.specs.View.{isNil, opOf};
 ghost use Rattle.model.specs.Side as model;
-ghost use Rattle.side.specs.Meaning.{valueIn, isValue, cargoBy, freshOp, sideOf, stageOf, stageBy, deedOf, viewed, tokenList, voided, counts};
-ghost use Rattle.model.specs.Table.{of, sum};
+ghost use Rattle.model.specs.Table.{of, sum, turn, inPlace};
+ghost use Rattle.side.specs.Meaning.{valueIn, isValue, cargoBy, blankOp, freshOp, sideOf, placeIn, stageOf, stageBy, deedOf, viewed, tokenList, voided, counts};
 ghost use Rattle.side.specs.Sound.{Sound};
 ghost use Rattle.side.specs.Calls.{Open, Alone, Fresh, Sees, Leaves, Refreshed, Detaches, Joins, Opens, Ends, Pends, CallsOne, Closes, wokenOf};
 
@@ -37,18 +37,22 @@ pub enum Mark {
     Void,
 }
 
-// What it carries stands as a value and whether there is one, not as a `Cargo`: that keeps a record at 8 bytes.
+// The record of a place: how many of its turns are over, and the operation that is open there, if one is. The owner is a handle's whole number.
+// What an operation carries stands as a value and whether there is one, not as a `Cargo`, and the numbers stand first: that keeps a record at 16 bytes.
 pub struct Op {
     value: u32,
+    owner: u32,
+    turn: u32,
     carries: bool,
-    owner: u8,
     mark: Mark,
 }
 
+// `live` are the places with an open operation, `spent` those whose turns are used up.
 // Both ends are numbers that calls look at, the line's head and the live word, so that what lies between is copied in one piece.
 pub struct Side {
     waiters: WaitList,
     ops: [Op; 32],
+    spent: Live,
     live: Live,
 }
 
@@ -61,7 +65,7 @@ pub enum Stage {
 }
 
 pub struct Entry {
-    pub owner: u8,
+    pub owner: u32,
     pub cargo: Cargo,
     pub stage: Stage,
 }
@@ -79,7 +83,7 @@ pub enum OptToken {
 // The operation that was called, with the token to wake.
 pub enum Woken {
     Nobody,
-    Op { number: u8, token: u32 },
+    Op { number: u32, token: u32 },
 }
 
 pub struct Opened {
@@ -135,14 +139,22 @@ impl Cargo {
 impl Op {
     pub const LIMIT: u32 = 32;
 
-    // What stands at a number that was never given.
+    // What stands at a place that was never used.
     pub fn fresh() -> Op
         ensures { λ r. ⌜ r ≡ freshOp ⌝ }
     {
+        Op::blank(0)
+    }
+
+    // What an operation leaves behind: how many turns of its place are over, and nothing else.
+    fn blank(turn: u32) -> Op
+        ensures { λ r. ⌜ r ≡ blankOp turn ⌝ }
+    {
         Op {
             value: 0,
-            carries: false,
             owner: 0,
+            turn: turn,
+            carries: false,
             mark: Mark::Idle,
         }
     }
@@ -207,9 +219,8 @@ impl Entry {
         ensures { λ r. ⌜ r ≡ counts asked (deedOf self) ⌝ }
     {
         let stage = self.stage;
-        let own = wide(self.owner);
         match asked {
-            Asked::Owned(owner) => if owner == own { 1 } else { 0 },
+            Asked::Owned(owner) => if owner == self.owner { 1 } else { 0 },
             Asked::Called => stage.called(),
             Asked::Polled => stage.polled(),
         }
@@ -280,14 +291,25 @@ fn replaced(old: u32, new: u32) -> OptToken
     OptToken::Token(old)
 }
 
-fn woken_of(held: Held) -> Woken
-    ensures { λ r. ⌜ r ≡ wokenOf held ⌝ }
+// The place of the operation that a node belongs to.
+fn place_in(held: Held) -> u32
+    ensures { λ r. ⌜ r ≡ opOf held ⌝ }
+{
+    match held {
+        Held::Empty => 0,
+        Held::Holding { op, waiter: _ } => op as u32,
+    }
+}
+
+// Operation n, whose node held this, was called.
+fn woken_of(n: u32, held: Held) -> Woken
+    ensures { λ r. ⌜ r ≡ wokenOf n held ⌝ }
 {
     match held {
         Held::Empty => Woken::Nobody,
-        Held::Holding { op, waiter } => match waiter {
+        Held::Holding { op: _, waiter } => match waiter {
             Waiter::Waiting(t) => Woken::Op {
-                number: op,
+                number: n,
                 token: t,
             },
             Waiter::Called => Woken::Nobody,
@@ -305,8 +327,9 @@ fn void(op: Op) -> Op
         Mark::Void => op,
         Mark::At(_) => Op {
             value: op.value,
-            carries: op.carries,
             owner: op.owner,
+            turn: op.turn,
+            carries: op.carries,
             mark: Mark::Void,
         },
     }
@@ -336,20 +359,34 @@ impl Side {
         let ops = [op; 32];
         let waiters = WaitList::new();
         Side {
-            live: live,
-            ops: ops,
             waiters: waiters,
+            ops: ops,
+            spent: live,
+            live: live,
         }
     }
 
-    // The operation with the number n, if there is one.
-    pub fn get(self, n: u32) -> View
+    // How many turns of a place are over: the turn of the operation that is open there, or of the next one.
+    fn turn_at(self, place: u32) -> u32
         requires { ⌜ Sound self ⌝ }
-        ensures { λ r. ⌜ Sees self n r ⌝ }
+        ensures { λ r. ⌜ r ≡ turn (placeIn self place) ⌝ }
+    {
+        if place < Op::LIMIT {
+            let i = place as usize;
+            let op = self.ops[i];
+            return op.turn;
+        }
+        0
+    }
+
+    // The operation at a place, if one is open there.
+    fn at(self, place: u32) -> View
+        requires { ⌜ Sound self ⌝ }
+        ensures { λ r. ⌜ viewed r ≡ inPlace (placeIn self place) ⌝ }
     {
         let live = self.live;
-        if live.has(n) {
-            let i = n as usize;
+        if live.has(place) {
+            let i = place as usize;
             let op = self.ops[i];
             let mark = op.mark;
             let cargo = Cargo::of(op.carries, op.value);
@@ -364,32 +401,51 @@ impl Side {
         View::Missing
     }
 
-    // An operation is opened at the lowest free number, if there is one.
-    pub fn open(self, owner: u8, cargo: Cargo) -> Opened
+    // The operation with the number n, if it is open: an operation of another turn at its place is another operation.
+    pub fn get(self, n: u32) -> View
+        requires { ⌜ Sound self ⌝ }
+        ensures { λ r. ⌜ Sees self n r ⌝ }
+    {
+        let place = n % 64;
+        let turn = self.turn_at(place);
+        if turn == n / 64 {
+            return self.at(place);
+        }
+        View::Missing
+    }
+
+    // An operation is opened at the lowest free place with a turn left, if there is one.
+    pub fn open(self, owner: u32, cargo: Cargo) -> Opened
         requires { ⌜ Sound self ⌝ }
         ensures { λ r. ⌜ Opens self owner cargo r ⌝ }
     {
         let live = self.live;
-        let n = live.lowest();
-        if n < Op::LIMIT {
-            let i = n as usize;
+        let spent = self.spent;
+        let place = live.lowest_beside(spent);
+        if place < Op::LIMIT {
+            let i = place as usize;
+            let was = self.ops[i];
+            let turn = was.turn;
             let value = cargo.value();
             let carries = cargo.carries();
             let mut ops = self.ops;
             ops[i] = Op {
                 value: value,
-                carries: carries,
                 owner: owner,
+                turn: turn,
+                carries: carries,
                 mark: Mark::Idle,
             };
-            let grown = live.with(n);
+            let grown = live.with(place);
+            let number = tables::number_at(place, turn);
             let waiters = self.waiters;
             return Opened {
-                number: Number::Given(n),
+                number: Number::Given(number),
                 side: Side {
-                    live: grown,
-                    ops: ops,
                     waiters: waiters,
+                    ops: ops,
+                    spent: spent,
+                    live: grown,
                 },
             };
         }
@@ -405,7 +461,8 @@ impl Side {
         requires { ⌜ Open self n ⌝ }
         ensures { λ r. ⌜ Detaches self n r ⌝ }
     {
-        let i = n as usize;
+        let place = n % 64;
+        let i = place as usize;
         let op = self.ops[i];
         let mark = op.mark;
         match mark {
@@ -415,17 +472,20 @@ impl Side {
                 let mut ops = self.ops;
                 ops[i] = Op {
                     value: op.value,
-                    carries: op.carries,
                     owner: op.owner,
+                    turn: op.turn,
+                    carries: op.carries,
                     mark: Mark::Idle,
                 };
                 let line = self.waiters;
                 let waiters = remove_waiter(line, id);
+                let spent = self.spent;
                 let live = self.live;
                 Side {
-                    live: live,
-                    ops: ops,
                     waiters: waiters,
+                    ops: ops,
+                    spent: spent,
+                    live: live,
                 }
             }
         }
@@ -438,43 +498,55 @@ impl Side {
         requires { ⌜ Alone self n ⌝ }
         ensures { λ r. ⌜ Joins self n token r ⌝ }
     {
-        let i = n as usize;
+        let place = n % 64;
+        let i = place as usize;
         let op = self.ops[i];
         let line = self.waiters;
-        let number = n as u8;
+        let number = place as u8;
         let put = line.push_back(number, Waiter::Waiting(token));
         let id = put.id;
         let waiters = put.list;
         let mut ops = self.ops;
         ops[i] = Op {
             value: op.value,
-            carries: op.carries,
             owner: op.owner,
+            turn: op.turn,
+            carries: op.carries,
             mark: Mark::At(id),
         };
+        let spent = self.spent;
         let live = self.live;
         Side {
-            live: live,
-            ops: ops,
             waiters: waiters,
+            ops: ops,
+            spent: spent,
+            live: live,
         }
     }
 
-    // Operation n ends, and leaves the line if it stands there.
+    // Operation n ends, and leaves the line if it stands there. One more turn of its place is over, and the place is spent after its last.
     pub fn end(self, n: u32) -> Side
         requires { ⌜ Sound self ⌝ }
         requires { ⌜ Open self n ⌝ }
         ensures { λ r. ⌜ Ends self n r ⌝ }
     {
         let out = self.detach(n);
+        let place = n % 64;
+        let i = place as usize;
+        let turn = n / 64 + 1;
+        let blank = Op::blank(turn);
+        let mut ops = out.ops;
+        ops[i] = blank;
+        let before = out.spent;
+        let spent = tables::spent_by(before, place, turn);
         let was = out.live;
-        let live = was.without(n);
-        let ops = out.ops;
+        let live = was.without(place);
         let waiters = out.waiters;
         Side {
-            live: live,
-            ops: ops,
             waiters: waiters,
+            ops: ops,
+            spent: spent,
+            live: live,
         }
     }
 
@@ -484,7 +556,8 @@ impl Side {
         requires { ⌜ Open self n ⌝ }
         ensures { λ r. ⌜ Pends self n token r ⌝ }
     {
-        let i = n as usize;
+        let place = n % 64;
+        let i = place as usize;
         let op = self.ops[i];
         let mark = op.mark;
         let line = self.waiters;
@@ -494,14 +567,16 @@ impl Side {
             OptToken::Token(old) => {
                 let retired = replaced(old, token);
                 let waiters = refreshed(line, mark, token);
-                let live = self.live;
                 let ops = self.ops;
+                let spent = self.spent;
+                let live = self.live;
                 Pended {
                     retired: retired,
                     side: Side {
-                        live: live,
-                        ops: ops,
                         waiters: waiters,
+                        ops: ops,
+                        spent: spent,
+                        live: live,
                     },
                 }
             }
@@ -531,16 +606,21 @@ impl Side {
             },
             OptWaiter::Id(_) => {
                 let held = out.held;
-                let woken = woken_of(held);
+                let place = place_in(held);
+                let turn = self.turn_at(place);
+                let number = tables::number_at(place, turn);
+                let woken = woken_of(number, held);
                 let waiters = out.list;
-                let live = self.live;
                 let ops = self.ops;
+                let spent = self.spent;
+                let live = self.live;
                 CalledOne {
                     woken: woken,
                     side: Side {
-                        live: live,
-                        ops: ops,
                         waiters: waiters,
+                        ops: ops,
+                        spent: spent,
+                        live: live,
                     },
                 }
             }
@@ -557,13 +637,15 @@ impl Side {
         let was = self.ops;
         let ops = void_all(was);
         let waiters = WaitList::new();
+        let spent = self.spent;
         let live = self.live;
         Closed {
             wakes: wakes,
             side: Side {
-                live: live,
-                ops: ops,
                 waiters: waiters,
+                ops: ops,
+                spent: spent,
+                live: live,
             },
         }
     }
@@ -592,12 +674,12 @@ impl Side {
         ensures { λ r. ⌜ r ≡ sum (counts asked) (sideOf self .ops) ⌝ }
     {
         let mut total: u32 = 0;
-        let mut n: u32 = 0;
-        while n < Op::LIMIT {
-            let view = self.get(n);
+        let mut place: u32 = 0;
+        while place < Op::LIMIT {
+            let view = self.at(place);
             let one = view.counted(asked);
             total += one;
-            n += 1;
+            place += 1;
         }
         total
     }

@@ -1,157 +1,213 @@
--- What each way through the tables' functions shows. Assumes nothing.
-use Prim.Native.Nat.{ℕ, zero, suc, _<_, _≤_}
-use mathlib.Core.Path.{_≡_, refl, sym, ap, ap₂, _∙_, subst}
+-- What each way through the methods of handles and of permits shows: the laws of words at their two kinds of record. Assumes nothing.
+use Prim.Native.Nat.{ℕ, zero, suc, _+_, _*_, _/_, _%_, _<_, _≤_}
+use mathlib.Core.Path.{_≡_, refl, sym, ap, _∙_, subst}
 use mathlib.Core.Bool.{Bool, true, false}
-use mathlib.Core.List.{List, [], _∷_, map}
-use mathlib.Core.Option.{none, some}
-use native.Mathlib.Nat.{lt-of-not-le}
+use mathlib.Core.List.{List}
+use mathlib.Core.Option.{some}
 use native.Mathlib.Omega.{arith}
+use native.Mathlib.Decide.{ℕ-discrete}
 use lib.Dec.{eqb}
-use lib.ListN.{length, getD, set, replicate, length-set, length-map, List·getD-map, List·getD-eq-default}
-use lib.Seq.{set-getD}
+use lib.ListN.{length, getD, set, replicate}
+use lib.Seq.{set-getD, getD-set-same, getD-set-other}
 use Rattle.live.specs.declared.Live.{Live}
-use Rattle.live.specs.Bits.{liveOf, noneLive, lowestClear, countLive}
-use Rattle.live.specs.Table.{Within, held, firstFree, countHeld}
-use Rattle.live.proofs.Laws.{live-below, length-live, within-none, within-with, within-without}
-use Rattle.live.proofs.Tables.{held-live, held-free, held-open, held-close, held-none, length-held, firstFree-held, countHeld-held}
-use Rattle.model.specs.Table.{Table, lookup, lowest, oneMore, of, live, if_then_else_}
+use Rattle.live.specs.Bits.{liveOf, noneLive, lowestClear, either, countLive}
+use Rattle.live.proofs.Laws.{length-live}
+use Rattle.model.specs.Table.{LAST-TURN, vacant, inPlace, lookup, of, live, if_then_else_}
 use Rattle.model.proofs.TableLaws.{same-yes, same-no}
-use Rattle.model.specs.Queue.{Mark}
+use Rattle.tables.specs.declared.Handle.{Handle}
 use Rattle.tables.specs.declared.Handles.{Handles}
 use Rattle.tables.specs.declared.Permit.{Permit}
 use Rattle.tables.specs.declared.Permits.{Permits}
 use Rattle.tables.specs.declared.Number.the-variants.{NoRoom, Given as GivenNo}
-use Rattle.tables.specs.Meaning.{handlesOf, HandlesSound, isLive, ownerOf, permitsOf, PermitsSound, noPermit, belongs}
+use Rattle.tables.specs.Places.{spentBy, Used, placesOf}
+use Rattle.tables.specs.Meaning.{handleTurn, marked, handlesOf, HandlesSound, noHandle, permitTurn, ownerOf, permitsOf, Wiped, PermitsSound, noPermit, belongs, isLive}
 use Rattle.tables.specs.Calls.{NoHandles, NoPermits, Gives, Drops, Clones, Leaves}
+use Rattle.tables.proofs.PlaceLaws.{both-bits, used-blank, places-blank}
+use Rattle.tables.proofs.WordLaws as words
 
-module _ {A : Type 0} where
-  pub lowest-is : (t : Table A) → firstFree t < length t → lowest t ≡ some (firstFree t)
-  unfolding firstFree
-  lowest-is [] h = absurd (omega arith)
-  lowest-is (none ∷ t) h = refl
-  lowest-is (some a ∷ t) h = ap oneMore (lowest-is t (omega arith))
+-- ---- no record is live, and none was
+module _ {A : Type 0} (turnOf : A → ℕ) (limit : ℕ) (w s : Live) (e : liveOf w ≡ noneLive) (g : liveOf s ≡ noneLive) (x : A) (z : turnOf x ≡ 0) where
+  unused : Used turnOf limit (liveOf w) (liveOf s) (replicate limit x)
+  unused =
+      subst (λ (l : List Bool). Used turnOf limit l (liveOf s) (replicate limit x)) (sym e)
+      (subst (λ (m : List Bool). Used turnOf limit noneLive m (replicate limit x)) (sym g) (used-blank turnOf limit x z))
 
-  pub lowest-not : (t : Table A) → length t ≤ firstFree t → lowest t ≡ none
-  unfolding firstFree
-  lowest-not [] h = refl
-  lowest-not (none ∷ t) h = absurd (omega arith)
-  lowest-not (some a ∷ t) h = ap oneMore (lowest-not t (omega arith))
+pub no-handles : (w s : Live) → liveOf w ≡ noneLive → liveOf s ≡ noneLive → (x : Handle) → x ≡ noHandle → NoHandles (record { live = w; spent = s; table = replicate 16 x })
+unfolding handlesOf
+no-handles w s e g x z =
+    record {
+      sound = record { used = unused handleTurn 16 w s e g x (ap handleTurn z) };
+      handles = ap (λ (l : List Bool). placesOf handleTurn marked l (replicate 16 x)) e ∙ places-blank handleTurn marked 16 x (ap handleTurn z) (omega arith);
+    }
 
-  count-is : (t : Table A) → countHeld t ≡ live t
-  unfolding countHeld
-  count-is [] = refl
-  count-is (none ∷ t) = let h = count-is t in omega arith
-  count-is (some a ∷ t) = let h = count-is t in omega arith
+all-alike : {A : Type 0} (n i : ℕ) (x : A) → getD (replicate n x) i x ≡ x
+all-alike zero i x = refl
+all-alike (suc n) zero x = refl
+all-alike (suc n) (suc i) x = all-alike n i x
+
+pub no-permits : (w s : Live) → liveOf w ≡ noneLive → liveOf s ≡ noneLive → (x : Permit) → x ≡ noPermit → NoPermits (record { live = w; spent = s; table = replicate 64 x })
+unfolding permitsOf
+no-permits w s e g x z =
+    record {
+      sound = record {
+        used = unused permitTurn 64 w s e g x (ap permitTurn z);
+        wiped = λ i q. ap ownerOf (ap (λ (d : Permit). getD (replicate 64 x) i d) (sym z) ∙ (all-alike 64 i x ∙ z));
+      };
+      permits = ap (λ (l : List Bool). placesOf permitTurn ownerOf l (replicate 64 x)) e ∙ places-blank permitTurn ownerOf 64 x (ap permitTurn z) (omega arith);
+    }
 
 -- ---- handles
-wide-handles : (h : Handles) → length (handlesOf h) ≡ 16
-unfolding handlesOf
-wide-handles h = length-held (liveOf (h .live)) (replicate 16 tt) (omega (arith, length-live (h .live)))
+module _ (h : Handles) (snd : HandlesSound h) where
+  few : 16 ≤ 64
+  few = omega arith
 
-module _ (h : Handles) (s : HandlesSound h) where
-  pub has-is : (n : ℕ) (b : Bool) → b ≡ getD (liveOf (h .live)) n false → b ≡ isLive (lookup (handlesOf h) n)
+  pub handles-counted : (n : ℕ) → n ≡ countLive (liveOf (h .live)) → n ≡ live (handlesOf h)
   unfolding handlesOf
-  has-is n b e = e ∙ go (getD (liveOf (h .live)) n false) refl
-    where
-      go : (c : Bool) → getD (liveOf (h .live)) n false ≡ c → c ≡ isLive (lookup (handlesOf h) n)
-      go true q =
-          let small = live-below 16 (liveOf (h .live)) n (s .within) q in
-          sym (ap isLive (held-live (liveOf (h .live)) (replicate 16 tt) n tt small q))
-      go false q = sym (ap isLive (held-free (liveOf (h .live)) (replicate 16 tt) n q))
+  handles-counted = words.counted handleTurn marked noHandle 16 few (h .live) (h .spent) (h .table) (snd .used)
 
-  -- a live handle's number is one of the kind's
-  pub handle-small : (n : ℕ) (a : Mark) → lookup (handlesOf h) n ≡ some a → n < 16
-  handle-small n a e = lt-of-not-le (λ k. let z : none ≡ some a = sym (List·getD-eq-default (handlesOf h) none {n = n} (omega (arith, wide-handles h))) ∙ e in let y : _≡_ {A = ℕ} 0 1 = cc in omega arith)
+  module _ (n : ℕ) (b : Bool) (e : b ≡ getD (liveOf (h .live)) (n % 64) false) where
+    pub handle-place : b ≡ true → n % 64 < 16
+    handle-place = words.live-small handleTurn marked noHandle 16 few (h .live) (h .spent) (h .table) (snd .used) (n % 64) b e
 
-  pub count-live : (n : ℕ) → n ≡ countLive (liveOf (h .live)) → n ≡ live (handlesOf h)
-  unfolding handlesOf
-  count-live n e =
-      e ∙ (sym (countHeld-held 16 (liveOf (h .live)) (replicate 16 tt) refl (omega (arith, length-live (h .live))) (s .within)) ∙ count-is (handlesOf h))
+    pub handle-has : b ≡ true → eqb (getD (h .table) (n % 64) noHandle .turn) (n / 64) ≡ isLive (lookup (handlesOf h) n)
+    unfolding handlesOf
+    handle-has = words.has-turn handleTurn marked noHandle 16 few (h .live) (h .spent) (h .table) (snd .used) n b e
 
-pub map-set : {A B : Type 0} (f : A → B) (l : List A) (n : ℕ) (a : A) → map f (set l n a) ≡ set (map f l) n (f a)
-map-set f [] n a = refl
-map-set f (x ∷ l) zero a = refl
-map-set f (x ∷ l) (suc n) a = ap (λ (t : List _). f x ∷ t) (map-set f l n a)
+    pub handle-not : b ≡ false → false ≡ isLive (lookup (handlesOf h) n)
+    unfolding handlesOf
+    handle-not = words.has-not handleTurn marked noHandle 16 few (h .live) (h .spent) (h .table) (snd .used) n b e
+
+  module _ (i : ℕ) (e : i ≡ lowestClear (either (liveOf (h .live)) (liveOf (h .spent)))) where
+    pub handle-left : i < 16 → getD (h .table) i noHandle .turn ≤ LAST-TURN
+    handle-left = words.turn-left handleTurn marked noHandle 16 few (h .live) (h .spent) (h .table) (snd .used) i e
+
+    -- the record stays as it is: it holds its turn alone
+    pub handle-given : i < 16 → (n : ℕ) → n ≡ i + 64 * getD (h .table) i noHandle .turn → (l : Live) → liveOf l ≡ set (liveOf (h .live)) i true
+        → Clones h (record { number = GivenNo n; handles = record { live = l; spent = h .spent; table = h .table } })
+    unfolding handlesOf
+    handle-given b n q l g =
+        let x = getD (h .table) i noHandle in
+        let same : set (h .table) i x ≡ h .table = set-getD (h .table) i noHandle in
+        record {
+          sound = record {
+            used =
+                subst (λ (t : List Handle). Used handleTurn 16 (liveOf l) (liveOf (h .spent)) t) same
+                (words.opened-used handleTurn marked noHandle 16 few (h .live) (h .spent) (h .table) (snd .used) i e b n q x refl l g);
+          };
+          number = words.number-given handleTurn marked noHandle 16 few (h .live) (h .spent) (h .table) (snd .used) i e b n q;
+          handles =
+              ap (placesOf handleTurn marked (liveOf l)) (sym same)
+              ∙ words.opened-places handleTurn marked noHandle 16 few (h .live) (h .spent) (h .table) (snd .used) i e b n q x refl l g;
+        }
+
+    pub handle-full : 16 ≤ i → Clones h (record { number = NoRoom; handles = h })
+    unfolding handlesOf
+    handle-full b = record { sound = snd; number = words.none-left handleTurn marked noHandle 16 few (h .live) (h .spent) (h .table) (snd .used) i e b; handles = refl }
+
+  module _ (n : ℕ) (is : isLive (lookup (handlesOf h) n) ≡ true) where
+    pub handle-closing : n % 64 < 16
+    unfolding handlesOf
+    handle-closing = words.closing-small handleTurn marked noHandle 16 few (h .live) (h .spent) (h .table) (snd .used) n is
+
+    pub handle-closed : (l s : Live) → liveOf l ≡ set (liveOf (h .live)) (n % 64) false → liveOf s ≡ spentBy (liveOf (h .spent)) (n % 64) (n / 64 + 1)
+        → Leaves h n (record { live = l; spent = s; table = set (h .table) (n % 64) (record { turn = n / 64 + 1 }) })
+    unfolding handlesOf
+    handle-closed l s g z =
+        record {
+          sound = record { used = words.closed-used handleTurn marked noHandle 16 few (h .live) (h .spent) (h .table) (snd .used) n is (record { turn = n / 64 + 1 }) refl l s g z };
+          handles = words.closed-places handleTurn marked noHandle 16 few (h .live) (h .spent) (h .table) (snd .used) n is (record { turn = n / 64 + 1 }) refl l s g z;
+        }
 
 -- ---- permits
-pub wide-permits : (p : Permits) → PermitsSound p → length (permitsOf p) ≡ 64
-unfolding permitsOf
-wide-permits p snd =
-    let owners : length (map ownerOf (p .table)) ≡ 64 = length-map (p .table) ownerOf ∙ snd .sized in
-    length-held (liveOf (p .live)) (map ownerOf (p .table)) (omega (arith, length-live (p .live))) ∙ owners
+-- places that are not live stay wiped where a record comes, and where one goes that leaves no owner
+wiped-open : (l : List Bool) (t : List Permit) (i : ℕ) (x : Permit) → i < length l → Wiped l t → Wiped (set l i true) (set t i x)
+wiped-open l t i x h w k q =
+    let other : k ≡ i → ⊥ = λ z. both-bits (getD (set l i true) k false) (ap (λ (j : ℕ). getD (set l i true) j false) z ∙ getD-set-same l i true false h) q in
+    ap ownerOf (getD-set-other t i k x noPermit other) ∙ w k (sym (getD-set-other l i k true false other) ∙ q)
 
-module _ (p : Permits) (snd : PermitsSound p) (s n : ℕ) (e : n ≡ lowestClear (liveOf (p .live))) where
-  owners : length (map ownerOf (p .table)) ≡ 64
-  owners = length-map (p .table) ownerOf ∙ snd .sized
-
-  first : firstFree (permitsOf p) ≡ n
-  unfolding permitsOf
-  first = firstFree-held 64 (liveOf (p .live)) (map ownerOf (p .table)) owners (omega (arith, length-live (p .live))) (snd .within) ∙ sym e
-
-  wide : length (permitsOf p) ≡ 64
-  wide = wide-permits p snd
-
-  pub open-given : (l : Live) → n < 64 → liveOf l ≡ set (liveOf (p .live)) n true
-      → Gives p s (record { number = GivenNo n; permits = record { live = l; table = set (p .table) n (record { owner = s }) } })
-  unfolding permitsOf
-  open-given l b q =
-      record {
-        sound = record { sized = length-set (p .table) n (record { owner = s }) ∙ snd .sized; within = subst (Within 64) (sym q) (within-with 64 (liveOf (p .live)) n b (snd .within)) };
-        number = sym (lowest-is (permitsOf p) (omega (arith, first, wide)) ∙ ap some first);
-        permits =
-            ap (λ (k : List Bool). held k (map ownerOf (set (p .table) n (record { owner = s })))) q
-            ∙ (ap (held (set (liveOf (p .live)) n true)) (map-set ownerOf (p .table) n (record { owner = s }))
-            ∙ held-open (liveOf (p .live)) (map ownerOf (p .table)) n s);
-      }
-
-  pub open-full : 64 ≤ n → Gives p s (record { number = NoRoom; permits = p })
-  open-full b = record { sound = snd; number = sym (lowest-not (permitsOf p) (omega (arith, first, wide))); permits = refl }
+wiped-close : (l : List Bool) (t : List Permit) (i : ℕ) (x : Permit) → i < length t → x .owner ≡ 0 → Wiped l t → Wiped (set l i false) (set t i x)
+wiped-close l t i x h e w k q = go (ℕ-discrete k i)
+  where
+    go : Dec (k ≡ i) → getD (set t i x) k noPermit .owner ≡ 0
+    go (yes z) = ap ownerOf (ap (λ (j : ℕ). getD (set t i x) j noPermit) z ∙ getD-set-same t i x noPermit h) ∙ e
+    go (no d) = ap ownerOf (getD-set-other t i k x noPermit d) ∙ w k (sym (getD-set-other l i k false false d) ∙ q)
 
 module _ (p : Permits) (snd : PermitsSound p) where
-  pub permit-is : (n : ℕ) (b : Bool) → b ≡ getD (liveOf (p .live)) n false → b ≡ isLive (lookup (permitsOf p) n)
-  unfolding permitsOf
-  permit-is n b e = e ∙ go (getD (liveOf (p .live)) n false) refl
-    where
-      go : (c : Bool) → getD (liveOf (p .live)) n false ≡ c → c ≡ isLive (lookup (permitsOf p) n)
-      go true q =
-          let small = live-below 64 (liveOf (p .live)) n (snd .within) q in
-          sym (ap isLive (held-live (liveOf (p .live)) (map ownerOf (p .table)) n 0 (omega (arith, snd .sized, length-map (p .table) ownerOf)) q))
-      go false q = sym (ap isLive (held-free (liveOf (p .live)) (map ownerOf (p .table)) n q))
+  all : 64 ≤ 64
+  all = omega arith
 
-  pub permit-closed : (n : ℕ) (l : Live) → liveOf l ≡ set (liveOf (p .live)) n false → Drops p n (record { live = l; table = p .table })
+  pub wide-permits : length (permitsOf p) ≡ 64
   unfolding permitsOf
-  permit-closed n l e =
-      record {
-        sound = record { sized = snd .sized; within = subst (Within 64) (sym e) (within-without 64 (liveOf (p .live)) n (snd .within)) };
-        permits = ap (λ (k : List Bool). held k (map ownerOf (p .table))) e ∙ held-close (liveOf (p .live)) (map ownerOf (p .table)) n;
-      }
+  wide-permits = words.wide permitTurn ownerOf noPermit 64 all (p .live) (p .spent) (p .table) (snd .used)
 
-  pub permits-live : (n : ℕ) → n ≡ countLive (liveOf (p .live)) → n ≡ live (permitsOf p)
+  pub permits-counted : (n : ℕ) → n ≡ countLive (liveOf (p .live)) → n ≡ live (permitsOf p)
   unfolding permitsOf
-  permits-live n e =
-      e ∙ (sym (countHeld-held 64 (liveOf (p .live)) (map ownerOf (p .table)) (length-map (p .table) ownerOf ∙ snd .sized) (omega (arith, length-live (p .live))) (snd .within)) ∙ count-is (permitsOf p))
+  permits-counted = words.counted permitTurn ownerOf noPermit 64 all (p .live) (p .spent) (p .table) (snd .used)
+
+  module _ (n : ℕ) (b : Bool) (e : b ≡ getD (liveOf (p .live)) (n % 64) false) where
+    pub permit-has : b ≡ true → eqb (getD (p .table) (n % 64) noPermit .turn) (n / 64) ≡ isLive (lookup (permitsOf p) n)
+    unfolding permitsOf
+    permit-has = words.has-turn permitTurn ownerOf noPermit 64 all (p .live) (p .spent) (p .table) (snd .used) n b e
+
+    pub permit-not : b ≡ false → false ≡ isLive (lookup (permitsOf p) n)
+    unfolding permitsOf
+    permit-not = words.has-not permitTurn ownerOf noPermit 64 all (p .live) (p .spent) (p .table) (snd .used) n b e
+
+  module _ (i : ℕ) (e : i ≡ lowestClear (either (liveOf (p .live)) (liveOf (p .spent)))) where
+    pub permit-left : i < 64 → getD (p .table) i noPermit .turn ≤ LAST-TURN
+    permit-left = words.turn-left permitTurn ownerOf noPermit 64 all (p .live) (p .spent) (p .table) (snd .used) i e
+
+    pub permit-given : (s : ℕ) → i < 64 → (n : ℕ) → n ≡ i + 64 * getD (p .table) i noPermit .turn → (l : Live) → liveOf l ≡ set (liveOf (p .live)) i true
+        → Gives p s (record { number = GivenNo n; permits = record { live = l; spent = p .spent; table = set (p .table) i (record { owner = s; turn = getD (p .table) i noPermit .turn }) } })
+    unfolding permitsOf
+    permit-given s b n q l g =
+        let x : Permit = record { owner = s; turn = getD (p .table) i noPermit .turn } in
+        record {
+          sound = record {
+            used = words.opened-used permitTurn ownerOf noPermit 64 all (p .live) (p .spent) (p .table) (snd .used) i e b n q x refl l g;
+            wiped = subst (λ (m : List Bool). Wiped m (set (p .table) i x)) (sym g) (wiped-open (liveOf (p .live)) (p .table) i x (omega (arith, length-live (p .live))) (snd .wiped));
+          };
+          number = words.number-given permitTurn ownerOf noPermit 64 all (p .live) (p .spent) (p .table) (snd .used) i e b n q;
+          permits = words.opened-places permitTurn ownerOf noPermit 64 all (p .live) (p .spent) (p .table) (snd .used) i e b n q x refl l g;
+        }
+
+    pub permit-full : (s : ℕ) → 64 ≤ i → Gives p s (record { number = NoRoom; permits = p })
+    unfolding permitsOf
+    permit-full s b = record { sound = snd; number = words.none-left permitTurn ownerOf noPermit 64 all (p .live) (p .spent) (p .table) (snd .used) i e b; permits = refl }
+
+  module _ (n : ℕ) (is : isLive (lookup (permitsOf p) n) ≡ true) where
+    pub permit-closed : (l s : Live) → liveOf l ≡ set (liveOf (p .live)) (n % 64) false → liveOf s ≡ spentBy (liveOf (p .spent)) (n % 64) (n / 64 + 1)
+        → Drops p n (record { live = l; spent = s; table = set (p .table) (n % 64) (record { owner = 0; turn = n / 64 + 1 }) })
+    unfolding permitsOf
+    permit-closed l s g z =
+        let x : Permit = record { owner = 0; turn = n / 64 + 1 } in
+        record {
+          sound = record {
+            used = words.closed-used permitTurn ownerOf noPermit 64 all (p .live) (p .spent) (p .table) (snd .used) n is x refl l s g z;
+            wiped = subst (λ (m : List Bool). Wiped m (set (p .table) (n % 64) x)) (sym g) (wiped-close (liveOf (p .live)) (p .table) (n % 64) x (omega (arith, snd .used .sized)) refl (snd .wiped));
+          };
+          permits = words.closed-places permitTurn ownerOf noPermit 64 all (p .live) (p .spent) (p .table) (snd .used) n is x refl l s g z;
+        }
 
   -- ---- owned
-  module _ (n h : ℕ) (b : Bool) (e : b ≡ getD (liveOf (p .live)) n false) where
-    pub permit-small : b ≡ true → n < 64
-    permit-small t = live-below 64 (liveOf (p .live)) n (snd .within) (sym e ∙ t)
+  module _ (i h : ℕ) (b : Bool) (e : b ≡ getD (liveOf (p .live)) i false) where
+    pub permit-place : b ≡ true → i < 64
+    permit-place = words.live-small permitTurn ownerOf noPermit 64 all (p .live) (p .spent) (p .table) (snd .used) i b e
 
-    permit-row : b ≡ true → lookup (permitsOf p) n ≡ some (getD (p .table) n noPermit .owner)
+    permit-row : b ≡ true → inPlace (getD (permitsOf p) i (vacant 0)) ≡ some (getD (p .table) i noPermit .owner)
     unfolding permitsOf
-    permit-row t =
-        held-live (liveOf (p .live)) (map ownerOf (p .table)) n 0 (omega (arith, permit-small t, snd .sized, length-map (p .table) ownerOf)) (sym e ∙ t)
-        ∙ ap some (List·getD-map ownerOf (p .table) n noPermit)
+    permit-row = words.live-in permitTurn ownerOf noPermit 64 all (p .live) (p .spent) (p .table) (snd .used) i b e
 
-    module _ (own : ℕ) (o : own ≡ getD (p .table) n noPermit .owner) (t : b ≡ true) where
-      pub owned-yes : h ≡ own → 1 ≡ of (belongs h) (lookup (permitsOf p) n)
-      owned-yes g = sym (ap (of (belongs h)) (permit-row t) ∙ (ap (belongs h) (sym (g ∙ o)) ∙ same-yes h))
+    module _ (t : b ≡ true) where
+      pub owned-yes : h ≡ getD (p .table) i noPermit .owner → 1 ≡ of (belongs h) (inPlace (getD (permitsOf p) i (vacant 0)))
+      owned-yes g = sym (ap (of (belongs h)) (permit-row t) ∙ (ap (belongs h) (sym g) ∙ same-yes h))
 
-      pub owned-no : (h ≡ own → ⊥) → 0 ≡ of (belongs h) (lookup (permitsOf p) n)
-      owned-no g = sym (ap (of (belongs h)) (permit-row t) ∙ same-no h (getD (p .table) n noPermit .owner) (λ z. g (z ∙ sym o)))
+      pub owned-no : (h ≡ getD (p .table) i noPermit .owner → ⊥) → 0 ≡ of (belongs h) (inPlace (getD (permitsOf p) i (vacant 0)))
+      owned-no g = sym (ap (of (belongs h)) (permit-row t) ∙ same-no h (getD (p .table) i noPermit .owner) g)
 
-    pub owned-none : b ≡ false → 0 ≡ of (belongs h) (lookup (permitsOf p) n)
+    pub owned-none : b ≡ false → 0 ≡ of (belongs h) (inPlace (getD (permitsOf p) i (vacant 0)))
     unfolding permitsOf
-    owned-none t = sym (ap (of (belongs h)) (held-free (liveOf (p .live)) (map ownerOf (p .table)) n (sym e ∙ t)))
+    owned-none t = sym (ap (of (belongs h)) (words.vacant-in permitTurn ownerOf noPermit 64 all (p .live) (p .spent) (p .table) (snd .used) i b e t))
 
 pub belongs-one : (h a : ℕ) → belongs h a ≤ 1
 belongs-one h a = by (eqb h a)
@@ -159,48 +215,3 @@ belongs-one h a = by (eqb h a)
     by : (b : Bool) → (if b then 1 else 0) ≤ 1
     by true = omega arith
     by false = omega arith
-
--- ---- no record is live
-pub no-handles : (l : Live) → liveOf l ≡ noneLive → NoHandles (record { live = l })
-unfolding handlesOf
-no-handles l e =
-    record {
-      sound = record { within = subst (Within 16) (sym e) (within-none 16) };
-      handles = ap (λ (b : List Bool). held b (replicate 16 (tt {0}))) e ∙ held-none (replicate 16 (tt {0})) (omega arith);
-    }
-
-pub no-permits : (l : Live) (o : Permit) → liveOf l ≡ noneLive → NoPermits (record { live = l; table = replicate 64 o })
-unfolding permitsOf
-no-permits l o e =
-    record {
-      sound = record { sized = refl; within = subst (Within 64) (sym e) (within-none 64) };
-      permits = ap (λ (b : List Bool). held b (map ownerOf (replicate 64 o))) e ∙ held-none (map ownerOf (replicate 64 o)) (omega arith);
-    }
-
--- ---- handles come and go
-module _ (h : Handles) (snd : HandlesSound h) where
-  pub handle-closed : (n : ℕ) (l : Live) → liveOf l ≡ set (liveOf (h .live)) n false → Leaves h n (record { live = l })
-  unfolding handlesOf
-  handle-closed n l e =
-      record {
-        sound = record { within = subst (Within 16) (sym e) (within-without 16 (liveOf (h .live)) n (snd .within)) };
-        handles = ap (λ (k : List Bool). held k (replicate 16 tt)) e ∙ held-close (liveOf (h .live)) (replicate 16 tt) n;
-      }
-
-  module _ (n : ℕ) (e : n ≡ lowestClear (liveOf (h .live))) where
-    first-handle : firstFree (handlesOf h) ≡ n
-    unfolding handlesOf
-    first-handle = firstFree-held 16 (liveOf (h .live)) (replicate 16 tt) refl (omega (arith, length-live (h .live))) (snd .within) ∙ sym e
-
-    pub handle-given : (l : Live) → n < 16 → liveOf l ≡ set (liveOf (h .live)) n true → Clones h (record { number = GivenNo n; handles = record { live = l } })
-    unfolding handlesOf
-    handle-given l b q =
-        record {
-          sound = record { within = subst (Within 16) (sym q) (within-with 16 (liveOf (h .live)) n b (snd .within)) };
-          number = sym (lowest-is (handlesOf h) (omega (arith, first-handle, wide-handles h)) ∙ ap some first-handle);
-          handles =
-              ap₂ held q (sym (set-getD (replicate 16 tt) n tt)) ∙ held-open (liveOf (h .live)) (replicate 16 tt) n tt;
-        }
-
-    pub handle-full : 16 ≤ n → Clones h (record { number = NoRoom; handles = h })
-    handle-full b = record { sound = snd; number = sym (lowest-not (handlesOf h) (omega (arith, first-handle, wide-handles h))); handles = refl }

@@ -1,3 +1,5 @@
+pub mod PlaceLaws
+pub mod WordLaws
 pub mod Laws
 pub mod Counts
 pub mod One

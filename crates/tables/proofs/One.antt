@@ -1,5 +1,5 @@
--- Promises determine: any two answers that a promise allows give the same number and tables of one meaning. (`has`, `count`, `owned_by`, `wide`
--- and `Permit::fresh` answer by an equation.) Assumes nothing.
+-- Promises determine: any two answers that a promise allows give the same number and tables of one meaning. (The other
+-- functions answer by an equation.) Assumes nothing.
 use Prim.Native.Nat.{ℕ}
 use mathlib.Core.Path.{_≡_, sym, ap, _∙_}
 use mathlib.Core.Option.{Option}

@@ -34,6 +34,10 @@ fn lines() -> Vec<Vec<u8>> {
         "cancel-in 0 0", "cancel-in 32", "permit-send 0", "permit-send", "permit-send 0 1 2", "permit-send 64 1", "permit-drop",
         "permit-drop 0 0", "permit-drop 64", "clone-s", "clone-s 0 0", "clone-s 00", "clone-s 16", "clone-r", "clone-r 0 0",
         "clone-r 4294967296", "drop-s", "drop-s 0 0", "drop-s 16", "drop-r", "drop-r 0 0", "drop-r 16", "drop-r -1", "try-res",
+        "try-send 64 7", "try-send 128 7", "try-send 4294967232 7", "try-recv 64", "try-recv 064", "try-recv 80", "try-recv 4294967232",
+        "try-res 64", "reserve 64", "send 64 1", "recv 64", "recv 4294967232", "clone-s 64", "clone-r 65", "clone-r 80", "poll-out 64 1",
+        "poll-in 64 1", "poll-in 96 1", "cancel-out 64", "cancel-in 4294967232", "permit-send 128 1", "permit-drop 127", "drop-s 64",
+        "drop-s 4294967232", "drop-s 4294967296", "drop-r 64", "drop-r 65", "drop-r 0+64", "drop-r 0 64",
         "try-res 0 0", "try-res 01", "try-res 16", "drop-s 0;drop-r 0", "\u{feff}status", "make \u{661}", "sta\u{0}tus", "\u{e9}",
     ]
     .iter()
@@ -108,6 +112,8 @@ pub fn ends(lists: &mut Lists) -> Going {
         "make 1\ntry-send 0 4294967295", "make 1\ntry-send 0 4294967296", "make 1\ntry-send 0 42949672", "make 1\ndrop-s", "\nmake 1",
         "make-u", "make-u\n", "make-u\r\nstatus", "make-u ", "make-u 1", "make-u 1\nstatus", "make-", "make-\nstatus", "make-u\nstatus",
         "\nmake-u\nstatus\n", "status\nmake-u\nstatus", "make-u 8\nmake-u\nstatus", "make 1\ntry-send 0 1\nmake-u\nstatus\ntry-recv 0",
+        "clone-s 64\nmake 1\nclone-s 64\nclone-s 0\ndrop-s 1\nclone-s 1\nclone-s 0\ndrop-s 1\nclone-s 65\nmake 1\nclone-s 65\nclone-s 0\ndrop-s 65",
+        "make 1\nrecv 0\ncancel-in 0\nrecv 0\nmake 0\npoll-in 64 5\nmake 1\npoll-in 64 6\nrecv 0\npoll-in 0 7\nmake-u\nrecv 0\ncancel-in 64\nstatus",
         "make-u\ntry-send 0 1\nmake 65\nstatus\nmake 2\nstatus\ntry-recv 0", "make-u\ntry-send 0 1\nmake-u\ntry-recv 0\nstatus",
         "make 1\ntry-res 0\nmake-u\npermit-drop 0\nstatus\nmake\nstatus", "make-u\ntry-send 0 4294967295\ntry-recv 0", "make-u\ntry-send 0",
     ];

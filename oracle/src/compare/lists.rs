@@ -35,6 +35,12 @@ impl<'a> Lists<'a> {
         self.end_line();
     }
 
+    /// Whole lines, each with its LF.
+    pub fn lines(&mut self, text: &[u8], count: usize) {
+        self.text.extend_from_slice(text);
+        self.lines += count as u64;
+    }
+
     fn end_line(&mut self) {
         self.text.push(b'\n');
         self.lines += 1;

@@ -4,6 +4,7 @@ mod damage;
 mod exhaustive;
 mod full;
 mod lists;
+mod places;
 mod program;
 mod rng;
 mod run;
@@ -27,13 +28,13 @@ use walks::Kinds;
 const USAGE: &str = "\
 usage: compare [--program PATH] [--lines N] [--seed S] [--short]
            compares PATH (target/bin/calls) with the crate: the short lists, or all lists and then random
-           walks until N lines were compared (130000000)
+           walks until N lines were compared (160000000)
        compare --slips [NAME]
            builds a copy of the oracle with each planted slip and looks whether the short lists see it
        compare --store
            makes the lists under lists/ anew
        compare --gen KIND [--seed S] [--lines N] [--capacity C | --unbounded] [--length L]
-           prints lists: histories, deep, states, full, walks, damaged
+           prints lists: histories, deep, states, full, uses, walks, damaged
 ";
 
 /// What the command line asks for.
@@ -137,6 +138,7 @@ fn print_lists(kind: &str, options: &Options) -> io::Result<()> {
         "states" => exhaustive::states(&mut lists, &make, options.length),
         "walks" => walks::walks(&mut lists, &mut Rng::new(options.seed), kinds, options.lines.unwrap_or(1000)),
         "full" => full::full_tables(&mut lists, full::MAKES),
+        "uses" => full::many_uses(&mut lists, options.length as u32),
         "damaged" => damage::damaged(&mut lists, damage::MAKES, usize::MAX),
         _ => return Err(io::Error::other(format!("there are no lists of kind {kind}"))),
     };

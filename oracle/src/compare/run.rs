@@ -36,6 +36,8 @@ pub struct Plan {
     pub nearly_full: (usize, usize),
     /// Make and depth of the states that every call is tried on.
     pub states: &'static [(&'static str, usize)],
+    /// How often one place of each kind is used.
+    pub uses: u32,
     /// Lines of random walks at least.
     pub walks: u64,
     /// Lines of one list that is longer than any other.
@@ -49,6 +51,7 @@ pub const SHORT: Plan = Plan {
     deep: 3,
     nearly_full: (2, 1),
     states: &[("make 1", 4), ("make 2", 4), ("make-u", 5)],
+    uses: 300,
     walks: 1_000_000,
     long_list: 300_000,
     time_limit: Duration::from_secs(60),
@@ -60,12 +63,13 @@ const FULL: Plan = Plan {
     deep: 4,
     nearly_full: (3, 3),
     states: &[("make 1", 7), ("make 2", 6), ("make-u", 8)],
+    uses: 70_000,
     walks: 10_000_000,
     long_list: 3_000_000,
     time_limit: Duration::from_secs(600),
 };
 
-const FULL_LINES: u64 = 130_000_000;
+const FULL_LINES: u64 = 160_000_000;
 
 pub struct Difference {
     pub list: Vec<u8>,
@@ -179,6 +183,8 @@ impl<'a> Comparison<'a> {
         self.part("damaged lines before any make", plan.longest, |lists| damage::before_make(lists, usize::MAX))?;
         self.part("damaged lines", plan.longest, |lists| damage::damaged(lists, damage::MAKES, usize::MAX))?;
         self.part("full tables", plan.longest, |lists| full::full_tables(lists, full::MAKES))?;
+        let name = format!("one place of each kind used {} times", plan.uses);
+        self.part(&name, plan.longest, |lists| full::many_uses(lists, plan.uses))?;
         self.part("random walks", plan.longest, |lists| walks::walks(lists, &mut rng, Kinds::Both, early))?;
         for &(make, length) in plan.histories {
             let name = format!("every valid history of up to {length} calls after {make}");

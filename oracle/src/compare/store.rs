@@ -56,12 +56,15 @@ clone-r 0
 drop-s 0
 recv 1
 poll-in 0 55
+poll-in 64 55
+poll-in 128 55
 drop-r 1
 try-send 1 10
 status
 drop-s 1
 status
 poll-in 0 56
+poll-in 64 56
 try-recv 0
 make-u 64
 make-u
@@ -122,6 +125,7 @@ pub fn store(options: &Options) -> io::Result<()> {
     };
     write("bad-lines.in", gather(bad_lines))?;
     write("full-tables.in", gather(|lists| full::full_tables(lists, &[Call::Make(2), Call::Make(64)])))?;
+    write("uses.in", gather(|lists| full::many_uses(lists, 260)))?;
     for (name, make) in [("", "make 1"), ("unbounded-", "make-u")] {
         write(&format!("{name}states.in"), gather(|lists| exhaustive::states(lists, make, 1)))?;
         write(&format!("{name}histories.in"), gather(|lists| exhaustive::histories(lists, make, 2)))?;

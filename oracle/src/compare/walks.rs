@@ -3,8 +3,9 @@
 
 use oracle::calls;
 use oracle::calls::Call;
+use oracle::calls::PLACES;
+use oracle::calls::Record;
 use oracle::machine::Code;
-use oracle::machine::Live;
 use oracle::machine::Machine;
 use oracle::wakers;
 
@@ -125,7 +126,7 @@ struct Walk<'a> {
     inn: Side,
 }
 
-/// What a walk remembers of the operations of one direction, one bit for each number.
+/// What a walk remembers of the operations of one direction, one bit for each place.
 #[derive(Default)]
 struct Side {
     polled: u64,
@@ -135,28 +136,29 @@ struct Side {
 
 impl Side {
     fn follow(&mut self, number: u32, token: u32, code: Code) {
-        match (code, self.tokens.get_mut(number as usize)) {
-            (Code::Pending, Some(kept)) => {
-                *kept = token;
-                self.polled |= 1 << number;
-                self.woken &= !(1 << number);
-            }
-            (_, Some(_)) if !code.is_refusal() => self.forget(number),
-            _ => {}
+        if code == Code::Pending {
+            let place = number % PLACES;
+            self.tokens[place as usize] = token;
+            self.polled |= 1 << place;
+            self.woken &= !(1 << place);
+        } else {
+            self.forget(number, code);
         }
     }
 
-    fn forget(&mut self, number: u32) {
-        if number < 32 {
-            self.polled &= !(1 << number);
-            self.woken &= !(1 << number);
+    /// The operation ended, unless the call was refused.
+    fn forget(&mut self, number: u32, code: Code) {
+        if !code.is_refusal() {
+            let place = number % PLACES;
+            self.polled &= !(1 << place);
+            self.woken &= !(1 << place);
         }
     }
 
     fn wake(&mut self, token: u32) {
-        for number in 0..32 {
-            if self.polled & 1 << number != 0 && self.tokens[number] == token {
-                self.woken |= 1 << number;
+        for place in 0..32 {
+            if self.polled & 1 << place != 0 && self.tokens[place] == token {
+                self.woken |= 1 << place;
             }
         }
     }
@@ -232,8 +234,7 @@ fn walk(lists: &mut Lists, rng: &mut Rng, unbounded: bool) -> Result<u64, crate:
 impl Walk<'_> {
     /// With one side gone little can happen any more, with both next to nothing: such walks end sooner.
     fn is_over(&mut self) -> bool {
-        let live = self.machine.live();
-        match (live.senders == 0, live.receivers == 0) {
+        match (self.machine.live(Record::Sender) == 0, self.machine.live(Record::Receiver) == 0) {
             (true, true) => self.rng.below(4) == 0,
             (false, false) => false,
             _ => self.rng.below(40) == 0,
@@ -271,8 +272,8 @@ impl Walk<'_> {
         match call {
             Call::PollOut(number, token) => self.out.follow(number, token, code),
             Call::PollIn(number, token) => self.inn.follow(number, token, code),
-            Call::CancelOut(number) => self.out.forget(number),
-            Call::CancelIn(number) => self.inn.forget(number),
+            Call::CancelOut(number) => self.out.forget(number, code),
+            Call::CancelIn(number) => self.inn.forget(number, code),
             _ => {}
         }
         wakers::with_log(|log| {
@@ -299,59 +300,75 @@ impl Walk<'_> {
             left -= mood[index];
             index += 1;
         }
-        let live = self.machine.live();
         let value = self.value();
         Some(match CHOICES[index] {
-            Choice::CloneS => Call::CloneS(self.number(live.senders)?),
-            Choice::CloneR => Call::CloneR(self.number(live.receivers)?),
-            Choice::TrySend => Call::TrySend(self.number(live.senders)?, value),
-            Choice::TryRes => Call::TryRes(self.reserving(live)?),
-            Choice::Reserve => Call::Reserve(self.reserving(live)?),
-            Choice::Send => Call::Send(self.reserving(live)?, value),
-            Choice::Recv => Call::Recv(self.number(live.receivers)?),
+            Choice::CloneS => Call::CloneS(self.number(Record::Sender)?),
+            Choice::CloneR => Call::CloneR(self.number(Record::Receiver)?),
+            Choice::TrySend => Call::TrySend(self.number(Record::Sender)?, value),
+            Choice::TryRes => Call::TryRes(self.reserving()?),
+            Choice::Reserve => Call::Reserve(self.reserving()?),
+            Choice::Send => Call::Send(self.reserving()?, value),
+            Choice::Recv => Call::Recv(self.number(Record::Receiver)?),
             Choice::PollOut => {
-                let number = self.outgoing(live)?;
+                let number = self.number(Record::Outgoing)?;
                 Call::PollOut(number, self.token(90, number))
             }
-            Choice::CancelOut => Call::CancelOut(self.outgoing(live)?),
-            Choice::PermitSend => Call::PermitSend(self.number(live.permits)?, value),
-            Choice::PermitDrop => Call::PermitDrop(self.number(live.permits)?),
-            Choice::TryRecv => Call::TryRecv(self.number(live.receivers)?),
+            Choice::CancelOut => Call::CancelOut(self.number(Record::Outgoing)?),
+            Choice::PermitSend => Call::PermitSend(self.number(Record::Permit)?, value),
+            Choice::PermitDrop => Call::PermitDrop(self.number(Record::Permit)?),
+            Choice::TryRecv => Call::TryRecv(self.number(Record::Receiver)?),
             Choice::PollIn => {
-                let number = self.incoming(live)?;
+                let number = self.number(Record::Incoming)?;
                 Call::PollIn(number, self.token(50, number))
             }
-            Choice::CancelIn => Call::CancelIn(self.incoming(live)?),
-            Choice::DropS => Call::DropS(self.number(live.senders)?),
-            Choice::DropR => Call::DropR(self.number(live.receivers)?),
+            Choice::CancelIn => Call::CancelIn(self.number(Record::Incoming)?),
+            Choice::DropS => Call::DropS(self.number(Record::Sender)?),
+            Choice::DropR => Call::DropR(self.number(Record::Receiver)?),
             Choice::Status => Call::Status,
         })
     }
 
-    /// A live number if there is one, or one chosen with no regard to that.
-    fn number(&mut self, live: u64) -> Option<u32> {
-        if self.rng.percent(self.stray) { Some(self.stray_number()) } else { self.rng.bit(live) }
+    /// The number of a live record if there is one, or a number chosen with no regard to that.
+    fn number(&mut self, record: Record) -> Option<u32> {
+        if self.rng.percent(self.stray) {
+            return Some(self.stray_number(record));
+        }
+        let live = self.machine.live(record);
+        let place = match record {
+            Record::Outgoing => self.out.choose(self.rng, live),
+            Record::Incoming => self.inn.choose(self.rng, live),
+            _ => self.rng.bit(live),
+        };
+        Some(self.machine.number_at(record, place?))
     }
 
     /// A sender for a call that an unbounded queue refuses: a walk with no stray numbers goes without such calls.
-    fn reserving(&mut self, live: Live) -> Option<u32> {
-        if self.unbounded && self.stray == 0 { None } else { self.number(live.senders) }
+    fn reserving(&mut self) -> Option<u32> {
+        if self.unbounded && self.stray == 0 { None } else { self.number(Record::Sender) }
     }
 
-    fn outgoing(&mut self, live: Live) -> Option<u32> {
-        if self.rng.percent(self.stray) { Some(self.stray_number()) } else { self.out.choose(self.rng, live.outgoing) }
-    }
-
-    fn incoming(&mut self, live: Live) -> Option<u32> {
-        if self.rng.percent(self.stray) { Some(self.stray_number()) } else { self.inn.choose(self.rng, live.incoming) }
-    }
-
-    fn stray_number(&mut self) -> u32 {
-        match self.rng.below(8) {
+    fn stray_number(&mut self, record: Record) -> u32 {
+        match self.rng.below(16) {
             0..=3 => self.rng.below(4),
             4..=5 => self.rng.below(66),
             6 => *self.rng.pick(&[15, 16, 31, 32, 63, 64, 65, 128, 255, 256]),
-            _ => *self.rng.pick(&[4294967295, 4294967294, 2147483648, 2147483647, 65536, 1000]),
+            7 => *self.rng.pick(&[4294967295, 4294967294, 4294967232, 2147483648, 2147483647, 65536, 1000]),
+            _ => self.wrong_turn(record),
+        }
+    }
+
+    /// A place, live if there is one, at a turn that is over or still to come. Before the first turn comes the last.
+    fn wrong_turn(&mut self, record: Record) -> u32 {
+        let live = self.machine.live(record);
+        let below = *self.rng.pick(&[4, 4, 4, PLACES]);
+        let place = if self.rng.percent(70) { self.rng.bit(live) } else { None };
+        let place = place.unwrap_or_else(|| self.rng.below(below));
+        let number = self.machine.number_at(record, place);
+        match self.rng.below(8) {
+            0..=2 => number.wrapping_sub(PLACES),
+            3..=4 => place + PLACES * self.rng.below((number / PLACES).max(1)),
+            5..=6 => number.wrapping_add(PLACES),
+            _ => number.wrapping_add(PLACES * (2 + self.rng.below(1000))),
         }
     }
 
@@ -369,7 +386,7 @@ impl Walk<'_> {
                 self.fresh
             }
             Tokens::Few => self.rng.below(3),
-            Tokens::Own => base * 100 + number % 100 + 10000 * u32::from(self.rng.percent(30)),
+            Tokens::Own => base * 100_000 + number % 100_000 + 10_000_000 * u32::from(self.rng.percent(30)),
             Tokens::Extreme => *self.rng.pick(&[0, 1, 2, u32::MAX, u32::MAX - 1, 1 << 31]),
         }
     }

@@ -1,6 +1,7 @@
 -- `queue::Queue::drop_r` meets its contract.
 -- Assumes nothing.
 use Rattle.queue.proofs.Handing.{leave-dead, leave-busy, leave-last, leave-other, shaped-fewer}
+use Rattle.queue.proofs.Settled.{not-unknown}
 use borrow.Author.Needs.{needs}
 use Rattle.queue.proofs.Queue.drop_r.Statement.{statement}
 use Rattle.queue.proofs.Queue.drop_r.Tie as tie
@@ -24,7 +25,7 @@ returns-2 : tie.Need-returns-2
 returns-2 c = search leave-busy
 
 close-requires : tie.Need-close-requires
-close-requires c κs = search needs
+close-requires c κs = search (needs, not-unknown)
 
 count-requires : tie.Need-count-requires
 count-requires c κs = search needs

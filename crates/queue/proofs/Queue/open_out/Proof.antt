@@ -1,7 +1,6 @@
 -- `queue::Queue::open_out` meets its contract. Its arms meet before the one exit: an unbounded queue, no number is free, a number was given, no such sender.
 -- Assumes nothing.
 use mathlib.Core.Logic.{⊎-elim}
-use Rattle.queue.proofs.Settled.{owner-fits}
 use Rattle.queue.proofs.Polled.{open-dead, open-wrong, open-full, open-given}
 use borrow.Author.Needs.{needs}
 use Rattle.queue.proofs.Queue.open_out.Statement.{statement}
@@ -12,9 +11,6 @@ has-requires c κs = search needs
 
 is-unbounded-requires : tie.Need-is-unbounded-requires
 is-unbounded-requires c κs = search needs
-
-cast-owner : tie.Need-cast-owner
-cast-owner c = search owner-fits
 
 open-requires : tie.Need-open-requires
 open-requires c κs = search needs
@@ -37,7 +33,6 @@ open-out-spec =
     (tie.spec
     has-requires
     is-unbounded-requires
-    cast-owner
     open-requires
     enum-told
     enum-known-number

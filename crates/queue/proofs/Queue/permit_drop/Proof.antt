@@ -1,7 +1,7 @@
 -- `queue::Queue::permit_drop` meets its contract. Its arms meet before the one exit: no receiver, nobody waits, the first in line is called, no such permit.
 -- Assumes nothing.
 use mathlib.Core.Logic.{⊎-elim}
-use Rattle.queue.proofs.Settled.{free-small}
+use Rattle.queue.proofs.Settled.{free-small, known}
 use Rattle.queue.proofs.Sent.{dropped-not, dropped-gone, dropped-free, dropped-called}
 use borrow.Author.Needs.{needs}
 use Rattle.queue.proofs.Queue.permit_drop.Statement.{statement}
@@ -11,7 +11,7 @@ has-requires : tie.Need-has-requires
 has-requires c κs = search needs
 
 close-requires : tie.Need-close-requires
-close-requires c κs = search needs
+close-requires c κs = search (needs, known)
 
 count-requires : tie.Need-count-requires
 count-requires c κs = search needs

@@ -2,6 +2,7 @@
 -- Assumes nothing.
 use mathlib.Core.Logic.{⊎-elim}
 use Rattle.queue.proofs.Sent.{room-redeemed, redeemed-not, redeemed-gone, redeemed-alone, redeemed-called}
+use Rattle.queue.proofs.Settled.{known}
 use borrow.Author.Needs.{needs}
 use Rattle.queue.proofs.Queue.permit_send.Statement.{statement}
 use Rattle.queue.proofs.Queue.permit_send.Tie as tie
@@ -10,7 +11,7 @@ has-requires : tie.Need-has-requires
 has-requires c κs = search needs
 
 close-requires : tie.Need-close-requires
-close-requires c κs = search needs
+close-requires c κs = search (needs, known)
 
 count-requires : tie.Need-count-requires
 count-requires c κs = search needs

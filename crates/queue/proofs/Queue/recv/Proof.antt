@@ -1,7 +1,6 @@
 -- `queue::Queue::recv` meets its contract.
 -- Assumes nothing.
 use mathlib.Core.Logic.{⊎-elim}
-use Rattle.queue.proofs.Settled.{owner-fits}
 use Rattle.queue.proofs.Taken.{opened-dead, opened-full, opened-given}
 use borrow.Author.Needs.{needs}
 use Rattle.queue.proofs.Queue.recv.Statement.{statement}
@@ -9,9 +8,6 @@ use Rattle.queue.proofs.Queue.recv.Tie as tie
 
 has-requires : tie.Need-has-requires
 has-requires c κs = search needs
-
-cast-owner : tie.Need-cast-owner
-cast-owner c = owner-fits _ _ _ (c .before .before .before .before .pre .shaped .receivers) (c .before .before .has .ensures) (c .before .if1 .taken)
 
 open-requires : tie.Need-open-requires
 open-requires c κs = search needs
@@ -42,7 +38,6 @@ recv-spec =
     tie.close
     (tie.spec
     has-requires
-    cast-owner
     open-requires
     enum-told
     enum-known-number

@@ -5,9 +5,6 @@ use borrow.Author.Needs.{needs}
 use Rattle.side.proofs.Entry.counted.Statement.{statement}
 use Rattle.side.proofs.Entry.counted.Tie as tie
 
-wide-requires : tie.Need-wide-requires
-wide-requires c κs = search needs
-
 enum-known-asked : tie.Need-enum-known-asked
 enum-known-asked c = search needs
 
@@ -39,7 +36,6 @@ pub counted-spec : {M : Type 1} → statement M
 counted-spec =
     tie.close
     (tie.spec
-    wide-requires
     enum-known-asked
     enum-told
     called-requires

@@ -7,16 +7,16 @@ use Rattle.side.proofs.Side.count.Statement.{statement}
 use Rattle.side.proofs.Side.count.Tie as tie
 
 abbrev Inv-loop : tie.InvT-loop
-Inv-loop self asked total₀ n₀ total n = Counting asked self n total
+Inv-loop self asked total₀ place₀ total place = Counting asked self place total
 
 abbrev μ-loop : tie.MeasureT-loop
-μ-loop self asked total₀ n₀ total n = 32 - n
+μ-loop self asked total₀ place₀ total place = 32 - place
 
 loop-holds : tie.Need-loop-holds Inv-loop μ-loop
 loop-holds c = search counting-none
 
-get-requires : tie.Need-get-requires Inv-loop μ-loop
-get-requires c κs = search needs
+at-requires : tie.Need-at-requires Inv-loop μ-loop
+at-requires c κs = search needs
 
 counted-requires : tie.Need-counted-requires Inv-loop μ-loop
 counted-requires c κs = search needs
@@ -24,8 +24,8 @@ counted-requires c κs = search needs
 add-total : tie.Need-add-total Inv-loop μ-loop
 add-total c = search counting-fits
 
-add-n : tie.Need-add-n Inv-loop μ-loop
-add-n c = search needs
+add-place : tie.Need-add-place Inv-loop μ-loop
+add-place c = search needs
 
 loop-less : tie.Need-loop-less Inv-loop μ-loop
 loop-less c = search needs
@@ -43,10 +43,10 @@ count-spec =
     Inv-loop
     μ-loop
     loop-holds
-    get-requires
+    at-requires
     counted-requires
     add-total
-    add-n
+    add-place
     loop-less
     loop-again
     returns)

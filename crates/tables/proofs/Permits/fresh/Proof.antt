@@ -11,8 +11,11 @@ fresh-requires c κs = search needs
 fresh-requires-2 : tie.Need-fresh-requires-2
 fresh-requires-2 c κs = search needs
 
+fresh-requires-3 : tie.Need-fresh-requires-3
+fresh-requires-3 c κs = search needs
+
 returns : tie.Need-returns
 returns c = search no-permits
 
 pub fresh-spec : {M : Type 1} → statement M
-fresh-spec = tie.close (tie.spec fresh-requires fresh-requires-2 returns)
+fresh-spec = tie.close (tie.spec fresh-requires fresh-requires-2 fresh-requires-3 returns)

@@ -9,10 +9,10 @@ use Rattle.tables.proofs.Permits.owned_by.Statement.{statement}
 use Rattle.tables.proofs.Permits.owned_by.Tie as tie
 
 abbrev Inv-loop : tie.InvT-loop
-Inv-loop self owner total₀ n₀ total n = Counting (belongs owner) (permitsOf self) 64 n total
+Inv-loop self owner total₀ place₀ total place = Counting (belongs owner) (permitsOf self) 64 place total
 
 abbrev μ-loop : tie.MeasureT-loop
-μ-loop self owner total₀ n₀ total n = 64 - n
+μ-loop self owner total₀ place₀ total place = 64 - place
 
 loop-holds : tie.Need-loop-holds Inv-loop μ-loop
 loop-holds c = search (counting-none, wide-permits)
@@ -23,8 +23,8 @@ owned-requires c κs = search needs
 add-total : tie.Need-add-total Inv-loop μ-loop
 add-total c = search (counting-fits, belongs-one)
 
-add-n : tie.Need-add-n Inv-loop μ-loop
-add-n c = search needs
+add-place : tie.Need-add-place Inv-loop μ-loop
+add-place c = search needs
 
 loop-less : tie.Need-loop-less Inv-loop μ-loop
 loop-less c = search needs
@@ -44,7 +44,7 @@ owned-by-spec =
     loop-holds
     owned-requires
     add-total
-    add-n
+    add-place
     loop-less
     loop-again
     returns)
