@@ -43,6 +43,7 @@ pub enum Code {
     NoRoom = 23,
     BadLine = 24,
     RingFull = 25,
+    Closed = 26,
     WrongKind = 28,
 }
 
@@ -120,7 +121,15 @@ impl<T, const LIMIT: usize> Table<T, LIMIT> {
     fn find(&self, number: u32) -> Result<usize, Code> {
         let place = place_of(number);
         let is_live = self.live >> place & 1 == 1;
-        if is_live && self.turns[place] == turn_of(number) { Ok(place) } else { Err(Code::NoHandle) }
+        if is_live && self.turns[place] == turn_of(number) { Ok(place) } else { Err(self.dead(number)) }
+    }
+
+    /// What a number answers that is not live: it was given and is closed, or it was never given.
+    fn dead(&self, number: u32) -> Code {
+        match self.turns.get(place_of(number)) {
+            Some(&over) if turn_of(number) < over => Code::Closed,
+            _ => Code::NoHandle,
+        }
     }
 
     fn get(&self, number: u32) -> Result<&T, Code> {
@@ -623,7 +632,7 @@ mod tests {
         assert_eq!(table.close(u32::MAX - 63), Ok(()));
         assert_eq!(open(&mut table), Ok(1 + 64 * 5));
         assert_eq!(open(&mut table), Err(Code::NoRoom));
-        assert_eq!(table.get(u32::MAX - 63), Err(Code::NoHandle));
+        assert_eq!(table.get(u32::MAX - 63), Err(Code::Closed));
         assert_eq!(table.close(1 + 64 * 5), Ok(()));
         assert_eq!(open(&mut table), Ok(1 + 64 * 6));
         table.clear(drop);

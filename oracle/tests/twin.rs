@@ -105,12 +105,37 @@ fn a_number_is_its_place_and_64_times_its_turn() {
 #[test]
 fn a_number_of_another_turn_reaches_nobody() {
     let second_use = "make 1\nrecv 0\nrecv 0\ncancel-in 0\nrecv 0\npoll-in 64 50\n";
-    for dead in ["0", "128", "65", "4294967232"] {
+    for (dead, code) in [("0", "26 -"), ("128", "21 -"), ("65", "21 -"), ("4294967232", "21 -")] {
         let list = format!("{second_use}poll-in {dead} 51\ncancel-in {dead}\nstatus\ntry-send 0 7\npoll-in 64 50");
-        assert_eq!(last(&list, 5), ["21 -", "21 -", "4 0,1,0,0,0,1", "0 -", "1 7"], "{dead}");
+        assert_eq!(last(&list, 5), [code, code, "4 0,1,0,0,0,1", "0 -", "1 7"], "{dead}");
     }
     // A place that the kind does not have.
     assert_eq!(last("make 1\nclone-s 80\nclone-r 16\nrecv 79\npoll-in 96 1", 4), ["21 -"; 4]);
+}
+
+#[test]
+fn a_closed_number_is_told_from_one_never_given() {
+    assert_eq!(
+        last("poll-in 0 1\nmake 1\npoll-in 0 1\nrecv 0\ncancel-in 0\npoll-in 0 1\npoll-in 64 1", 2),
+        ["26 -", "21 -"]
+    );
+    // All turns that are over, the place live or not.
+    let third_use = "make 1\nrecv 0\ncancel-in 0\nrecv 0\ncancel-in 64\nrecv 0\n";
+    assert_eq!(last(&format!("{third_use}cancel-in 0\ncancel-in 64\ncancel-in 192"), 3), ["26 -", "26 -", "21 -"]);
+    assert_eq!(last(&format!("{third_use}cancel-in 128\ncancel-in 128\ncancel-in 192"), 3), ["0 -", "26 -", "21 -"]);
+    // A place at or above its kind's limit, though one of that number modulo the limit is used.
+    assert_eq!(last(&format!("{third_use}cancel-in 32\nclone-s 16\nclone-r 80\npermit-drop 63"), 4), ["21 -"; 4]);
+    // A good make forgets, a refused one does not; before the first everything is 21.
+    assert_eq!(
+        last("make 1\nrecv 0\ncancel-in 0\nmake 0\ncancel-in 0\nmake 1\ncancel-in 0", 3),
+        ["26 -", "0 -", "21 -"]
+    );
+    assert_eq!(last("clone-s 0\nmake 65\ndrop-s 0\nstatus", 3), ["20 -", "21 -", "21 -"]);
+    // In the place of 21: before 28, 23 and 25.
+    let full = format!("make-u\nclone-s 0\ndrop-s 1\n{}", "try-send 0 7\n".repeat(64));
+    assert_eq!(last(&format!("{full}try-send 1 8\nreserve 1\ntry-res 1\nsend 1 8"), 4), ["26 -"; 4]);
+    let clones = format!("make 1\nclone-s 0\ndrop-s 1\n{}", "clone-s 0\n".repeat(15));
+    assert_eq!(last(&format!("{clones}clone-s 0\nclone-s 1"), 2), ["23 -", "26 -"]);
 }
 
 #[test]

@@ -13,7 +13,7 @@ unfolding played make makeU step answers cloneS cloneR trySend tryRes openOut op
 edges-hold = refl
 
 pub turns-hold : Hold turns
-unfolding played make step answers cloneS cloneR trySend tryRes openOut openIn pollOut cancelOut permitSend permitDrop tryRecv pollIn cancelIn dropS dropR
+unfolding played make makeU step answers cloneS cloneR trySend tryRes openOut openIn pollOut cancelOut permitSend permitDrop tryRecv pollIn cancelIn dropS dropR
 turns-hold = refl
 
 pub worn-hold : HoldLate worn

@@ -8,7 +8,7 @@ use mathlib.Core.Option.{Option, none, some}
 use Prim.Native.Nat.{ℕ, _≤_}
 use Rattle.model.specs.Table.{lookup}
 use Rattle.model.specs.Side.{Stage, idle, called}
-use Rattle.model.specs.Queue.{Queue, Mark, bare, carrying, isUnbounded, noReceiver, noFree, refuse, NO-HANDLE, NO-ROOM}
+use Rattle.model.specs.Queue.{Queue, Mark, bare, carrying, isUnbounded, noReceiver, noFree, refuse, CLOSED, NO-ROOM}
 use Rattle.model.specs.Calls.{step, after}
 use Rattle.model.specs.Calls.{Call, CloneS, CloneR, TrySend, TryRes, Reserve, Send, Recv, PollOut, CancelOut}
 use Rattle.model.specs.Calls.{PermitSend, PermitDrop, TryRecv, PollIn, CancelIn, DropS, DropR, Status}
@@ -64,10 +64,10 @@ liveAs permit n q = found (lookup (q .permits) n)
 abbrev pub isLive : Handle → Queue → Bool
 isLive x q = liveAs (x .kind) (x .number) q
 
--- CLOSED FOR GOOD: from this queue on no calls make x live, and a call that names x is answered 21 and changes nothing
+-- CLOSED FOR GOOD: from this queue on no calls make x live, and a call that names x is answered 26 and changes nothing
 pub record ClosedForGood (x : Handle) (q : Queue) : Type 0 where
   pub neverLive : (cs : List Call) → isLive x (after cs q) ≡ false
-  pub changesNothing : (cs : List Call) (c : Call) → named c ≡ some x → step c (after cs q) ≡ refuse NO-HANDLE (after cs q)
+  pub changesNothing : (cs : List Call) (c : Call) → named c ≡ some x → step c (after cs q) ≡ refuse CLOSED (after cs q)
 
 -- whatever is live in the queue and is not after some calls
 abbrev pub NeverAgain : Queue → Type 0

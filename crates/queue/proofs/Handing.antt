@@ -31,21 +31,22 @@ use Rattle.model.proofs.Leaves.{cloneS-dead, cloneS-full, cloneS-given, cloneR-
 use Rattle.model.proofs.Leaves.{dropS-dead, dropS-busy, dropS-last, dropS-other, dropR-dead, dropR-busy, dropR-last, dropR-other}
 use Rattle.queue.specs.declared.Queue.{Queue}
 use Rattle.queue.specs.declared.Counts.{Counts}
-use Rattle.queue.specs.declared.What.the-variants.{Done, Discarded, Given as WGiven, Status as WStatus, NoHandle, InUse, NoRoom}
+use Rattle.queue.specs.declared.What.{What}
+use Rattle.queue.specs.declared.What.the-variants.{Done, Discarded, Given as WGiven, Status as WStatus, InUse, NoRoom}
 use Rattle.queue.specs.declared.Answer.{Answer}
 use Rattle.queue.specs.declared.Turn.{Turn}
 use Rattle.queue.specs.Meaning.{roomOf, queueOf, Shaped, Sound}
 use Rattle.queue.specs.Answers.{fieldOf}
 use Rattle.queue.specs.Promise.{Turned}
-use Rattle.queue.specs.Steps.{Says, Silences, silenced, Discards, discarded, Counted}
-use Rattle.queue.proofs.Settled.{stays, moves, does, withValues, withSenders, withReceivers, withOuts, withIns}
+use Rattle.queue.specs.Steps.{deadIn, Says, Silences, silenced, Discards, discarded, Counted}
+use Rattle.queue.proofs.Settled.{stays, refuses, moves, does, withValues, withSenders, withReceivers, withOuts, withIns}
 use Rattle.queue.proofs.Settled.{shaped-values, shaped-senders, shaped-receivers, shaped-outs, shaped-ins, dead, alive, none-left, some-left}
 
 -- ---- clone_s, clone_r
 module _ (q : Queue) (snd : Sound q) (s : ℕ) (b : Bool) (e : b ≡ isLive (lookup (handlesOf (q .senders)) s)) where
-  pub sender-dead : (a : Answer) → not b ≡ true → Says NoHandle [] [] a → Turned q (CloneS s) a q
+  pub sender-dead : (what : What) (a : Answer) → not b ≡ true → what ≡ deadIn (handlesOf (q .senders)) s → Says what [] [] a → Turned q (CloneS s) a q
   unfolding step
-  sender-dead a d u = stays q (CloneS s) NoHandle a snd u (sym (cloneS-dead s (queueOf q) (dead _ b e d)))
+  sender-dead what a d w u = refuses q (CloneS s) (handlesOf (q .senders)) s what a snd w u (cloneS-dead s (queueOf q) (dead _ b e d))
 
   module _ (d : not b ≡ false) (o : Cloned) (k : Clones (q .senders) o) where
     pub sender-full : (a : Answer) → o .number ≡ NoNumber → Says NoRoom [] [] a → Turned q (CloneS s) a q
@@ -63,9 +64,9 @@ module _ (q : Queue) (snd : Sound q) (s : ℕ) (b : Bool) (e : b ≡ isLive (loo
         ∙ sym (cloneS-given s (queueOf q) (l .0) n (l .1) (sym (k .number) ∙ ap numbered f)))
 
 module _ (q : Queue) (snd : Sound q) (s : ℕ) (b : Bool) (e : b ≡ isLive (lookup (handlesOf (q .receivers)) s)) where
-  pub receiver-dead : (a : Answer) → not b ≡ true → Says NoHandle [] [] a → Turned q (CloneR s) a q
+  pub receiver-dead : (what : What) (a : Answer) → not b ≡ true → what ≡ deadIn (handlesOf (q .receivers)) s → Says what [] [] a → Turned q (CloneR s) a q
   unfolding step
-  receiver-dead a d u = stays q (CloneR s) NoHandle a snd u (sym (cloneR-dead s (queueOf q) (dead _ b e d)))
+  receiver-dead what a d w u = refuses q (CloneR s) (handlesOf (q .receivers)) s what a snd w u (cloneR-dead s (queueOf q) (dead _ b e d))
 
   module _ (d : not b ≡ false) (o : Cloned) (k : Clones (q .receivers) o) where
     pub receiver-full : (a : Answer) → o .number ≡ NoNumber → Says NoRoom [] [] a → Turned q (CloneR s) a q
@@ -120,9 +121,9 @@ discard-done q w n v c e k u =
 
 -- ---- drop_s
 module _ (q : Queue) (snd : Sound q) (s : ℕ) (b : Bool) (e : b ≡ isLive (lookup (handlesOf (q .senders)) s)) where
-  pub quit-dead : (a : Answer) → not b ≡ true → Says NoHandle [] [] a → Turned q (DropS s) a q
+  pub quit-dead : (what : What) (a : Answer) → not b ≡ true → what ≡ deadIn (handlesOf (q .senders)) s → Says what [] [] a → Turned q (DropS s) a q
   unfolding step
-  quit-dead a d u = stays q (DropS s) NoHandle a snd u (sym (dropS-dead s (queueOf q) (dead _ b e d)))
+  quit-dead what a d w u = refuses q (DropS s) (handlesOf (q .senders)) s what a snd w u (dropS-dead s (queueOf q) (dead _ b e d))
 
   module _ (d : not b ≡ false) (busy : Bool) (g : busy ≡ model.senderBusy s (queueOf q)) where
     pub quit-busy : (a : Answer) → busy ≡ true → Says InUse [] [] a → Turned q (DropS s) a q
@@ -156,9 +157,9 @@ shaped-quit q s h snd k = shaped-senders q (snd .shaped) h (k .sound)
 
 -- ---- drop_r
 module _ (q : Queue) (snd : Sound q) (s : ℕ) (b : Bool) (e : b ≡ isLive (lookup (handlesOf (q .receivers)) s)) where
-  pub leave-dead : (a : Answer) → not b ≡ true → Says NoHandle [] [] a → Turned q (DropR s) a q
+  pub leave-dead : (what : What) (a : Answer) → not b ≡ true → what ≡ deadIn (handlesOf (q .receivers)) s → Says what [] [] a → Turned q (DropR s) a q
   unfolding step
-  leave-dead a d u = stays q (DropR s) NoHandle a snd u (sym (dropR-dead s (queueOf q) (dead _ b e d)))
+  leave-dead what a d w u = refuses q (DropR s) (handlesOf (q .receivers)) s what a snd w u (dropR-dead s (queueOf q) (dead _ b e d))
 
   module _ (d : not b ≡ false) (o : ℕ) (g : o ≡ side.ownedBy s (sideOf (q .ins))) where
     pub leave-busy : (a : Answer) → 0 < o → Says InUse [] [] a → Turned q (DropR s) a q

@@ -36,14 +36,14 @@ use Rattle.model.specs.declared.Call.the-variants.{PollOut, CancelOut}
 use Rattle.queue.specs.declared.Queue.{Queue}
 use Rattle.queue.specs.declared.available.Available.{Available}
 use Rattle.queue.specs.declared.What.{What}
-use Rattle.queue.specs.declared.What.the-variants.{Done, Given as WGiven, Pending, Disconnected, NoHandle, NoRoom, WrongKind}
+use Rattle.queue.specs.declared.What.the-variants.{Done, Given as WGiven, Pending, Disconnected, NoRoom, WrongKind}
 use Rattle.queue.specs.declared.Answer.{Answer}
 use Rattle.queue.specs.declared.Turn.{Turn}
 use Rattle.queue.specs.declared.outgoing.Outcome.{Outcome}
 use Rattle.queue.specs.declared.outgoing.Outcome.the-variants.{NoHandle as NoOperation, Gone, Permit, Push, Stays}
 use Rattle.queue.specs.Meaning.{roomOf, queueOf, Shaped, Sound}
 use Rattle.queue.specs.Promise.{Turned}
-use Rattle.queue.specs.Steps.{Says, opening, ready, withSlot, Slot, Comes}
+use Rattle.queue.specs.Steps.{deadIn, Says, opening, ready, withSlot, Slot, Comes}
 use Rattle.queue.specs.Steps as steps
 use Rattle.queue.proofs.Moves.{Notifies, Releases}
 use Rattle.queue.proofs.Settled.{turned-as, said-as, withValues, withFree, withPermits, withOuts, withIns, found-open}
@@ -53,8 +53,8 @@ use Rattle.queue.proofs.Sending.{release-gone, release-free, release-gr
 
 -- ---- open_out
 module _ (q : Queue) (snd : Sound q) (s : ℕ) (c : Cargo) (b : Bool) (e : b ≡ isLive (lookup (handlesOf (q .senders)) s)) (what : What) (a : Answer) (u : Says what [] [] a) (q′ : Queue) where
-  pub open-dead : b ≡ false → q′ ≡ q → what ≡ NoHandle → Turned q (opening c s) a q′
-  open-dead d x y = turned-as q (opening c s) a q q′ x (out-dead q snd s c b e a (ap not d) (said-as what NoHandle Nobody Nobody NoToken NoToken a y refl refl u))
+  pub open-dead : (k : What) → b ≡ false → k ≡ deadIn (handlesOf (q .senders)) s → q′ ≡ q → what ≡ k → Turned q (opening c s) a q′
+  open-dead k d w x y = turned-as q (opening c s) a q q′ x (out-dead q snd s c b e what a (ap not d) (y ∙ w) u)
 
   module _ (g : Bool) (h : g ≡ model.isUnbounded (queueOf q)) where
     pub open-wrong : b ≡ true → g ≡ true → q′ ≡ q → what ≡ WrongKind → Turned q (opening c s) a q′
@@ -128,8 +128,8 @@ module _ (q : Queue) (snd : Sound q) (n t : ℕ) (k : ℕ) (g : k ≡ live (hand
     room-push v f e = let y = by (Push v f) e in slot-room q snd n t (y .0) (at (y .0) (y .1)) k g (y .2) f (y .4)
 
     module _ (what : What) (woken : Woken) (retired : OptToken) (a : Answer) (u : Says what (wokenTokens woken) (tokenList retired) a) (q′ : Queue) where
-      pub polled-dead : plan ≡ NoOperation → q′ ≡ q → what ≡ NoHandle → woken ≡ Nobody → retired ≡ NoToken → Turned q (PollOut n t) a q′
-      polled-dead e i x y z = turned-as q (PollOut n t) a q q′ i (poll-dead q n t view a snd sees (by NoOperation e) (said-as what NoHandle woken Nobody retired NoToken a x y z u))
+      pub polled-dead : (d : What) → plan ≡ NoOperation → d ≡ deadIn (sideOf (q .outs) .ops) n → q′ ≡ q → what ≡ d → woken ≡ Nobody → retired ≡ NoToken → Turned q (PollOut n t) a q′
+      polled-dead d e w i x y z = turned-as q (PollOut n t) a q q′ i (poll-dead q n t view what a snd sees (by NoOperation e) (x ∙ w) (said-as what what woken Nobody retired NoToken a refl y z u))
 
       pub polled-gone : (c : Cargo) (o : Side) → plan ≡ Gone c → Ends (q .outs) n o → q′ ≡ withOuts o q → what ≡ Disconnected c → woken ≡ Nobody → retired ≡ NoToken → Turned q (PollOut n t) a q′
       polled-gone c o e d i x y z =
@@ -188,8 +188,8 @@ module _ (q : Queue) (snd : Sound q) (n t : ℕ) (k : ℕ) (g : k ≡ live (hand
 -- ---- cancel_out
 module _ (q : Queue) (snd : Sound q) (n : ℕ) (view : View) (sees : Sees (q .outs) n view) where
   module _ (what : What) (woken : Woken) (retired : OptToken) (a : Answer) (u : Says what (wokenTokens woken) (tokenList retired) a) (q′ : Queue) where
-    pub cancelled-dead : view ≡ Missing → q′ ≡ q → what ≡ NoHandle → woken ≡ Nobody → retired ≡ NoToken → Turned q (CancelOut n) a q′
-    cancelled-dead e i x y z = turned-as q (CancelOut n) a q q′ i (cancel-dead q snd n view sees a e (said-as what NoHandle woken Nobody retired NoToken a x y z u))
+    pub cancelled-dead : (k : What) → view ≡ Missing → k ≡ deadIn (sideOf (q .outs) .ops) n → q′ ≡ q → what ≡ k → woken ≡ Nobody → retired ≡ NoToken → Turned q (CancelOut n) a q′
+    cancelled-dead k e w i x y z = turned-as q (CancelOut n) a q q′ i (cancel-dead q snd n view sees what a e (x ∙ w) (said-as what what woken Nobody retired NoToken a refl y z u))
 
     module _ (e : Entry) (f : view ≡ Found e) (o : Side) (d : Ends (q .outs) n o) (b : Bool) (h : b ≡ steps.granted e) where
       pub cancelled-other : (k : OptToken) → b ≡ false → tokenList k ≡ side.kept (stageOf (e .stage)) → q′ ≡ withOuts o q → what ≡ Done → woken ≡ Nobody → retired ≡ k → Turned q (CancelOut n) a q′

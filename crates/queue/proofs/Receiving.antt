@@ -31,20 +31,21 @@ use Rattle.model.specs.Calls.{step}
 use Rattle.model.proofs.Leaves.{openIn-dead, openIn-full, openIn-given}
 use Rattle.model.proofs.Leaves.{cancelIn-dead, cancelIn-passed, cancelIn-other}
 use Rattle.queue.specs.declared.Queue.{Queue}
-use Rattle.queue.specs.declared.What.the-variants.{Done, Given as WGiven, NoHandle, NoRoom}
+use Rattle.queue.specs.declared.What.{What}
+use Rattle.queue.specs.declared.What.the-variants.{Done, Given as WGiven, NoRoom}
 use Rattle.queue.specs.declared.Answer.{Answer}
 use Rattle.queue.specs.declared.Turn.{Turn}
 use Rattle.queue.specs.Meaning.{queueOf, Sound}
 use Rattle.queue.specs.Promise.{Turned}
-use Rattle.queue.specs.Steps.{Says, passes}
+use Rattle.queue.specs.Steps.{deadIn, Says, passes}
 use Rattle.queue.proofs.Moves.{Notifies}
-use Rattle.queue.proofs.Settled.{stays, moves, does, withIns, shaped-ins, dead, alive}
+use Rattle.queue.proofs.Settled.{stays, refuses, moves, does, withIns, shaped-ins, dead, alive}
 
 -- ---- recv
 module _ (q : Queue) (snd : Sound q) (s : ℕ) (b : Bool) (e : b ≡ isLive (lookup (handlesOf (q .receivers)) s)) where
-  pub recv-dead : (a : Answer) → not b ≡ true → Says NoHandle [] [] a → Turned q (Recv s) a q
+  pub recv-dead : (what : What) (a : Answer) → not b ≡ true → what ≡ deadIn (handlesOf (q .receivers)) s → Says what [] [] a → Turned q (Recv s) a q
   unfolding step
-  recv-dead a d u = stays q (Recv s) NoHandle a snd u (sym (openIn-dead s (queueOf q) (dead _ b e d)))
+  recv-dead what a d w u = refuses q (Recv s) (handlesOf (q .receivers)) s what a snd w u (openIn-dead s (queueOf q) (dead _ b e d))
 
   module _ (d : not b ≡ false) (o : Opened) (k : Opens (q .ins) s Nothing o) where
     pub recv-full : (a : Answer) → o .number ≡ NoNumber → Says NoRoom [] [] a → Turned q (Recv s) a q
@@ -88,9 +89,10 @@ module _ (st : Stage) (left queued : ℕ) (b : Bool) (e : b ≡ eqb (side.isCall
   passes-queued d z = sym (ap (λ (x : Bool). x && (not (eqb left 0) && ltb 0 queued)) (sym e ∙ d) ∙ ap (λ (x : Bool). not x && ltb 0 queued) (ne-eqb left 0 z))
 
 -- ---- cancel_in
-pub leave-in-dead : (q : Queue) (n : ℕ) (view : View) (a : Answer) → Sound q → Sees (q .ins) n view → view ≡ Missing → Says NoHandle [] [] a → Turned q (CancelIn n) a q
+pub leave-in-dead : (q : Queue) (n : ℕ) (view : View) (what : What) (a : Answer) → Sound q → Sees (q .ins) n view → view ≡ Missing → what ≡ deadIn (sideOf (q .ins) .ops) n → Says what [] [] a
+    → Turned q (CancelIn n) a q
 unfolding step
-leave-in-dead q n view a snd sees e u = stays q (CancelIn n) NoHandle a snd u (sym (cancelIn-dead n (queueOf q) (sym sees ∙ ap viewed e)))
+leave-in-dead q n view what a snd sees e w u = refuses q (CancelIn n) (sideOf (q .ins) .ops) n what a snd w u (cancelIn-dead n (queueOf q) (sym sees ∙ ap viewed e))
 
 module _ (q : Queue) (snd : Sound q) (n : ℕ) (e : Entry) (sees : Sees (q .ins) n (Found e)) (left queued : ℕ) (g : left ≡ live (handlesOf (q .senders))) (h : queued ≡ length (ring.values (q .values)))
     (o : Side) (x : Ends (q .ins) n o) (b : Bool) (y : b ≡ passes (stageOf (e .stage)) left queued) where

@@ -48,15 +48,15 @@ use Rattle.model.proofs.Leaves.{cancelOut-dead, cancelOut-granted, cancelOut-ot
 use Rattle.queue.specs.declared.Queue.{Queue}
 use Rattle.queue.specs.declared.available.Available.{Available}
 use Rattle.queue.specs.declared.What.{What}
-use Rattle.queue.specs.declared.What.the-variants.{Done, Given as WGiven, Pending, Disconnected, NoHandle, NoRoom, WrongKind}
+use Rattle.queue.specs.declared.What.the-variants.{Done, Given as WGiven, Pending, Disconnected, NoRoom, WrongKind}
 use Rattle.queue.specs.declared.Answer.{Answer}
 use Rattle.queue.specs.declared.Turn.{Turn}
 use Rattle.queue.specs.Meaning.{roomOf, queueOf, Shaped, Sound}
 use Rattle.queue.specs.Answers.{codeOf, fieldOf, resultOf}
 use Rattle.queue.specs.Promise.{Turned}
-use Rattle.queue.specs.Steps.{Says, opening, ready, Slot}
+use Rattle.queue.specs.Steps.{deadIn, Says, opening, ready, Slot}
 use Rattle.queue.proofs.Moves.{Notifies, Pushes, Releases, releasing}
-use Rattle.queue.proofs.Settled.{kept, stays, moves, does, withValues, withFree, withPermits, withOuts, withIns}
+use Rattle.queue.proofs.Settled.{kept, stays, refuses, moves, does, withValues, withFree, withPermits, withOuts, withIns}
 use Rattle.queue.proofs.Settled.{shaped-values, shaped-free, shaped-permits, shaped-outs, shaped-ins, dead, alive, none-left, some-left, slot-left, reserved-counted}
 
 -- ---- wakes_of, say, plain
@@ -188,8 +188,8 @@ opening-is Nothing s q = refl
 opening-is (CValue v) s q = refl
 
 module _ (q : Queue) (snd : Sound q) (s : ℕ) (c : Cargo) (b : Bool) (e : b ≡ isLive (lookup (handlesOf (q .senders)) s)) where
-  pub out-dead : (a : Answer) → not b ≡ true → Says NoHandle [] [] a → Turned q (opening c s) a q
-  out-dead a d u = stays q (opening c s) NoHandle a snd u (sym (opening-is c s (queueOf q) ∙ openOut-dead (carried c) s (queueOf q) (dead _ b e d)))
+  pub out-dead : (what : What) (a : Answer) → not b ≡ true → what ≡ deadIn (handlesOf (q .senders)) s → Says what [] [] a → Turned q (opening c s) a q
+  out-dead what a d w u = refuses q (opening c s) (handlesOf (q .senders)) s what a snd w u (opening-is c s (queueOf q) ∙ openOut-dead (carried c) s (queueOf q) (dead _ b e d))
 
   pub out-wrong : (a : Answer) → not b ≡ false → model.isUnbounded (queueOf q) ≡ true → Says WrongKind [] [] a → Turned q (opening c s) a q
   out-wrong a d w u =
@@ -232,9 +232,10 @@ pub ready-free : (st : Stage) (f : model.Room) (b : Bool) → b ≡ ready (stage
 ready-free st f b e t = not-true (model.noneOf f) (and-right (eqb (side.waits (stageOf st)) 0) (not (model.noneOf f)) (sym e ∙ t))
 
 -- ---- poll_out
-pub poll-dead : (q : Queue) (n t : ℕ) (view : View) (a : Answer) → Sound q → Sees (q .outs) n view → view ≡ Missing → Says NoHandle [] [] a → Turned q (PollOut n t) a q
+pub poll-dead : (q : Queue) (n t : ℕ) (view : View) (what : What) (a : Answer) → Sound q → Sees (q .outs) n view → view ≡ Missing → what ≡ deadIn (sideOf (q .outs) .ops) n → Says what [] [] a
+    → Turned q (PollOut n t) a q
 unfolding step
-poll-dead q n t view a snd sees e u = stays q (PollOut n t) NoHandle a snd u (sym (pollOut-dead n t (queueOf q) (sym sees ∙ ap viewed e)))
+poll-dead q n t view what a snd sees e w u = refuses q (PollOut n t) (sideOf (q .outs) .ops) n what a snd w u (pollOut-dead n t (queueOf q) (sym sees ∙ ap viewed e))
 
 pub sees-found : (s : Side) (n : ℕ) (view : View) (e : Entry) → Sees s n view → view ≡ Found e → Sees s n (Found e)
 sees-found s n view e sees f = sym (ap viewed f) ∙ sees
@@ -340,9 +341,9 @@ shaped-taken q n o f snd x = shaped-free (withOuts o q) (shaped-outs q (snd .sha
 
 -- ---- cancel_out
 module _ (q : Queue) (snd : Sound q) (n : ℕ) (view : View) (sees : Sees (q .outs) n view) where
-  pub cancel-dead : (a : Answer) → view ≡ Missing → Says NoHandle [] [] a → Turned q (CancelOut n) a q
+  pub cancel-dead : (what : What) (a : Answer) → view ≡ Missing → what ≡ deadIn (sideOf (q .outs) .ops) n → Says what [] [] a → Turned q (CancelOut n) a q
   unfolding step
-  cancel-dead a e u = stays q (CancelOut n) NoHandle a snd u (sym (cancelOut-dead n (queueOf q) (sym sees ∙ ap viewed e)))
+  cancel-dead what a e w u = refuses q (CancelOut n) (sideOf (q .outs) .ops) n what a snd w u (cancelOut-dead n (queueOf q) (sym sees ∙ ap viewed e))
 
   module _ (e : Entry) (f : view ≡ Found e) where
     at-n : lookup (sideOf (q .outs) .ops) n ≡ some (deedOf e)
@@ -371,13 +372,13 @@ module _ (q : Queue) (snd : Sound q) (n : ℕ) (view : View) (sees : Sees (q .ou
 
 -- ---- permit_send, permit_drop
 module _ (q : Queue) (snd : Sound q) (p : ℕ) (b : Bool) (e : b ≡ isLive (lookup (permitsOf (q .permits)) p)) where
-  pub permit-dead : (v : ℕ) (a : Answer) → not b ≡ true → Says NoHandle [] [] a → Turned q (PermitSend p v) a q
+  pub permit-dead : (v : ℕ) (what : What) (a : Answer) → not b ≡ true → what ≡ deadIn (permitsOf (q .permits)) p → Says what [] [] a → Turned q (PermitSend p v) a q
   unfolding step
-  permit-dead v a d u = stays q (PermitSend p v) NoHandle a snd u (sym (permitSend-dead p v (queueOf q) (dead _ b e d)))
+  permit-dead v what a d w u = refuses q (PermitSend p v) (permitsOf (q .permits)) p what a snd w u (permitSend-dead p v (queueOf q) (dead _ b e d))
 
-  pub drop-dead : (a : Answer) → not b ≡ true → Says NoHandle [] [] a → Turned q (PermitDrop p) a q
+  pub drop-dead : (what : What) (a : Answer) → not b ≡ true → what ≡ deadIn (permitsOf (q .permits)) p → Says what [] [] a → Turned q (PermitDrop p) a q
   unfolding step
-  drop-dead a d u = stays q (PermitDrop p) NoHandle a snd u (sym (permitDrop-dead p (queueOf q) (dead _ b e d)))
+  drop-dead what a d w u = refuses q (PermitDrop p) (permitsOf (q .permits)) p what a snd w u (permitDrop-dead p (queueOf q) (dead _ b e d))
 
   module _ (d : not b ≡ false) (t : Permits) (k : Drops (q .permits) p t) where
     pub shaped-closed : Shaped (withPermits t q)

@@ -26,7 +26,7 @@ use Rattle.side.specs.declared.Woken.the-variants.{Nobody}
 use Rattle.side.specs.declared.CalledOne.{CalledOne}
 use Rattle.side.specs.Meaning.{sideOf, carried, wokenTokens}
 use Rattle.side.specs.Calls.{CallsOne}
-use Rattle.model.specs.Table.{Table, lookup, live, if_then_else_}
+use Rattle.model.specs.Table.{Table, lookup, wasClosed, live, if_then_else_}
 use Rattle.model.specs.Queue as model
 use Rattle.model.specs.declared.Call.the-variants.{TrySend, TryRes, PermitSend, PermitDrop}
 use Rattle.model.specs.Calls.{step, trySend, tryRes}
@@ -34,46 +34,46 @@ use Rattle.model.proofs.Leaves.{givePermit-given, givePermit-short}
 use Rattle.queue.specs.declared.Queue.{Queue}
 use Rattle.queue.specs.declared.available.Available.{Available}
 use Rattle.queue.specs.declared.What.{What}
-use Rattle.queue.specs.declared.What.the-variants.{Done, Given as WGiven, Full, Disconnected, NoHandle, NoRoom, RingFull, WrongKind}
+use Rattle.queue.specs.declared.What.the-variants.{Done, Given as WGiven, Full, Disconnected, NoRoom, RingFull, WrongKind}
 use Rattle.queue.specs.declared.Answer.{Answer}
 use Rattle.queue.specs.declared.Turn.{Turn}
 use Rattle.queue.specs.Meaning.{roomOf, queueOf, Shaped, Sound}
 use Rattle.queue.specs.Answers.{codeOf, fieldOf}
 use Rattle.queue.specs.Promise.{Turned}
-use Rattle.queue.specs.Steps.{Says, isDone, tried, sends, reserves}
+use Rattle.queue.specs.Steps.{deadIn, Says, isDone, tried, sends, reserves}
 use Rattle.queue.proofs.Moves.{Pushes}
-use Rattle.queue.proofs.Settled.{stays, moves, does, turned-as, said-as, withValues, withFree, withPermits, withOuts, withIns}
+use Rattle.queue.proofs.Settled.{dead-not-done, stays, moves, does, turned-as, said-as, withValues, withFree, withPermits, withOuts, withIns}
 use Rattle.queue.proofs.Settled.{shaped-free, shaped-permits, none-left, some-left}
 use Rattle.queue.proofs.Sending.{notify-nobody, notify-one, pushed, shaped-pushed, release-gone, release-free, release-grant, room-free}
 use Rattle.queue.proofs.Sending.{permit-dead, permit-gone, permit-sent, room-permit, shaped-closed, drop-dead, drop-done}
 
 -- ---- sendable: by its tests
 module _ (q : Queue) (shaped : Shaped q) (c : Cargo) (s : ℕ) (b : Bool) (e : b ≡ isLive (lookup (handlesOf (q .senders)) s)) where
-  pub sends-dead : b ≡ false → NoHandle ≡ sends c s (queueOf q)
+  pub sends-dead : (k : What) → b ≡ false → k ≡ deadIn (handlesOf (q .senders)) s → k ≡ sends c s (queueOf q)
   unfolding sends
-  sends-dead d = sym (ap (λ (l : Bool). tried c l (model.noReceiver (queueOf q)) (model.noFree (queueOf q)) (model.ringFull (queueOf q))) (sym e ∙ d))
+  sends-dead k d w = w ∙ sym (ap (λ (l : Bool). tried c (wasClosed (handlesOf (q .senders)) s) l (model.noReceiver (queueOf q)) (model.noFree (queueOf q)) (model.ringFull (queueOf q))) (sym e ∙ d))
 
   module _ (d : b ≡ true) (n : ℕ) (f : n ≡ live (handlesOf (q .receivers))) where
     pub sends-gone : n ≡ 0 → Disconnected c ≡ sends c s (queueOf q)
     unfolding sends
-    sends-gone z = sym (ap₂ (λ (l g : Bool). tried c l g (model.noFree (queueOf q)) (model.ringFull (queueOf q))) (sym e ∙ d) (none-left (handlesOf (q .receivers)) n f z))
+    sends-gone z = sym (ap₂ (λ (l g : Bool). tried c (wasClosed (handlesOf (q .senders)) s) l g (model.noFree (queueOf q)) (model.ringFull (queueOf q))) (sym e ∙ d) (none-left (handlesOf (q .receivers)) n f z))
 
     module _ (z : n ≡ 0 → ⊥) (g : Bool) (h : g ≡ model.noFree (queueOf q)) where
-      with-receiver : (x : Bool) → g ≡ x → sends c s (queueOf q) ≡ tried c true false x (model.ringFull (queueOf q))
+      with-receiver : (x : Bool) → g ≡ x → sends c s (queueOf q) ≡ tried c (wasClosed (handlesOf (q .senders)) s) true false x (model.ringFull (queueOf q))
       unfolding sends
       with-receiver x k =
-          ap₂ (λ (l r : Bool). tried c l r (model.noFree (queueOf q)) (model.ringFull (queueOf q))) (sym e ∙ d) (some-left (handlesOf (q .receivers)) n f z)
-          ∙ ap (λ (y : Bool). tried c true false y (model.ringFull (queueOf q))) (sym h ∙ k)
+          ap₂ (λ (l r : Bool). tried c (wasClosed (handlesOf (q .senders)) s) l r (model.noFree (queueOf q)) (model.ringFull (queueOf q))) (sym e ∙ d) (some-left (handlesOf (q .receivers)) n f z)
+          ∙ ap (λ (y : Bool). tried c (wasClosed (handlesOf (q .senders)) s) true false y (model.ringFull (queueOf q))) (sym h ∙ k)
 
       pub sends-full : g ≡ true → Full c ≡ sends c s (queueOf q)
       sends-full k = sym (with-receiver true k)
 
       module _ (k : g ≡ false) (r : Bool) (i : r ≡ model.ringFull (queueOf q)) where
         pub sends-ringFull : r ≡ true → RingFull ≡ sends c s (queueOf q)
-        sends-ringFull j = sym (with-receiver false k ∙ ap (λ (y : Bool). tried c true false false y) (sym i ∙ j))
+        sends-ringFull j = sym (with-receiver false k ∙ ap (λ (y : Bool). tried c (wasClosed (handlesOf (q .senders)) s) true false false y) (sym i ∙ j))
 
         pub sends-done : r ≡ false → Done ≡ sends c s (queueOf q)
-        sends-done j = sym (with-receiver false k ∙ ap (λ (y : Bool). tried c true false false y) (sym i ∙ j))
+        sends-done j = sym (with-receiver false k ∙ ap (λ (y : Bool). tried c (wasClosed (handlesOf (q .senders)) s) true false false y) (sym i ∙ j))
 
 -- ---- ring_is_full
 module _ (q : Queue) (b : Bool) (e : b ≡ model.isUnbounded (queueOf q)) where
@@ -103,50 +103,52 @@ module _ (q : Queue) (s : ℕ) (b : Bool) (e : b ≡ isLive (lookup (handlesOf (
 -- ---- what the definition answers by the same tests, where `go` is what follows if none of them stops the call
 module _ (q : model.Queue) (go : model.Result) where
   -- to a try-send
-  abbrev send-answered : Cargo → Option model.Mark → Bool → Bool → Bool → model.Result
-  send-answered c o gone full ring =
-      model.needOf o q
+  abbrev send-answered : Cargo → Bool → Option model.Mark → Bool → Bool → Bool → model.Result
+  send-answered c closed o gone full ring =
+      model.needOf o (if closed then model.CLOSED else model.NO-HANDLE) q
       (λ _. if gone then model.reply model.DISCONNECTED (model.cargo (carried c)) [] [] q else
       if full then model.reply model.FULL (model.cargo (carried c)) [] [] q else if ring then model.refuse model.RING-FULL q else go)
 
   -- to a try-res, of this kind of queue
-  abbrev res-answered : Option model.Mark → Bool → Bool → Bool → model.Result
-  res-answered o unbounded gone full =
-      model.needOf o q
+  abbrev res-answered : Bool → Option model.Mark → Bool → Bool → Bool → model.Result
+  res-answered closed o unbounded gone full =
+      model.needOf o (if closed then model.CLOSED else model.NO-HANDLE) q
       (λ _. if unbounded then model.refuse model.WRONG-KIND q else
       if gone then model.reply model.DISCONNECTED [] [] [] q else if full then model.reply model.FULL [] [] [] q else go)
 
-  abbrev reserved : Option model.Mark → Bool → Bool → Bool → Bool → What
-  reserved o unbounded gone full many = if isLive o && unbounded then WrongKind else tried Nothing (isLive o) gone full (unbounded && many)
+  abbrev reserved : Bool → Option model.Mark → Bool → Bool → Bool → Bool → What
+  reserved closed o unbounded gone full many = if isLive o && unbounded then WrongKind else tried Nothing closed (isLive o) gone full (unbounded && many)
 
   -- what is answered, and what was found if nothing stopped the call
-  send-by : (c : Cargo) (o : Option model.Mark) (gone full ring : Bool) (x : Bool) → isDone (tried c (isLive o) gone full ring) ≡ x
-      → (if x then go else model.reply (codeOf (tried c (isLive o) gone full ring)) (fieldOf (tried c (isLive o) gone full ring)) [] [] q) ≡ send-answered c o gone full ring
-  send-by c none gone full ring x h = sym (ap (λ (y : Bool). if y then go else model.refuse model.NO-HANDLE q) h)
-  send-by c (some a) true full ring x h = sym (ap (λ (y : Bool). if y then go else model.reply model.DISCONNECTED (model.cargo (carried c)) [] [] q) h)
-  send-by c (some a) false true ring x h = sym (ap (λ (y : Bool). if y then go else model.reply model.FULL (model.cargo (carried c)) [] [] q) h)
-  send-by c (some a) false false true x h = sym (ap (λ (y : Bool). if y then go else model.refuse model.RING-FULL q) h)
-  send-by c (some a) false false false x h = sym (ap (λ (y : Bool). if y then go else model.reply model.DONE [] [] [] q) h)
+  send-by : (c : Cargo) (closed : Bool) (o : Option model.Mark) (gone full ring : Bool) (x : Bool) → isDone (tried c closed (isLive o) gone full ring) ≡ x
+      → (if x then go else model.reply (codeOf (tried c closed (isLive o) gone full ring)) (fieldOf (tried c closed (isLive o) gone full ring)) [] [] q) ≡ send-answered c closed o gone full ring
+  send-by c true none gone full ring x h = sym (ap (λ (y : Bool). if y then go else model.refuse model.CLOSED q) h)
+  send-by c false none gone full ring x h = sym (ap (λ (y : Bool). if y then go else model.refuse model.NO-HANDLE q) h)
+  send-by c closed (some a) true full ring x h = sym (ap (λ (y : Bool). if y then go else model.reply model.DISCONNECTED (model.cargo (carried c)) [] [] q) h)
+  send-by c closed (some a) false true ring x h = sym (ap (λ (y : Bool). if y then go else model.reply model.FULL (model.cargo (carried c)) [] [] q) h)
+  send-by c closed (some a) false false true x h = sym (ap (λ (y : Bool). if y then go else model.refuse model.RING-FULL q) h)
+  send-by c closed (some a) false false false x h = sym (ap (λ (y : Bool). if y then go else model.reply model.DONE [] [] [] q) h)
 
-  res-by : (o : Option model.Mark) (unbounded gone full many : Bool) (x : Bool) → isDone (reserved o unbounded gone full many) ≡ x
-      → (if x then go else model.reply (codeOf (reserved o unbounded gone full many)) (fieldOf (reserved o unbounded gone full many)) [] [] q) ≡ res-answered o unbounded gone full
-  res-by none unbounded gone full many x h = sym (ap (λ (y : Bool). if y then go else model.refuse model.NO-HANDLE q) h)
-  res-by (some a) true gone full many x h = sym (ap (λ (y : Bool). if y then go else model.refuse model.WRONG-KIND q) h)
-  res-by (some a) false true full many x h = sym (ap (λ (y : Bool). if y then go else model.reply model.DISCONNECTED [] [] [] q) h)
-  res-by (some a) false false true many x h = sym (ap (λ (y : Bool). if y then go else model.reply model.FULL [] [] [] q) h)
-  res-by (some a) false false false many x h = sym (ap (λ (y : Bool). if y then go else model.reply model.DONE [] [] [] q) h)
+  res-by : (closed : Bool) (o : Option model.Mark) (unbounded gone full many : Bool) (x : Bool) → isDone (reserved closed o unbounded gone full many) ≡ x
+      → (if x then go else model.reply (codeOf (reserved closed o unbounded gone full many)) (fieldOf (reserved closed o unbounded gone full many)) [] [] q) ≡ res-answered closed o unbounded gone full
+  res-by true none unbounded gone full many x h = sym (ap (λ (y : Bool). if y then go else model.refuse model.CLOSED q) h)
+  res-by false none unbounded gone full many x h = sym (ap (λ (y : Bool). if y then go else model.refuse model.NO-HANDLE q) h)
+  res-by closed (some a) true gone full many x h = sym (ap (λ (y : Bool). if y then go else model.refuse model.WRONG-KIND q) h)
+  res-by closed (some a) false true full many x h = sym (ap (λ (y : Bool). if y then go else model.reply model.DISCONNECTED [] [] [] q) h)
+  res-by closed (some a) false false true many x h = sym (ap (λ (y : Bool). if y then go else model.reply model.FULL [] [] [] q) h)
+  res-by closed (some a) false false false many x h = sym (ap (λ (y : Bool). if y then go else model.reply model.DONE [] [] [] q) h)
 
 module _ (s : ℕ) (q : model.Queue) where
   -- a try-send goes through, or is answered what is told
   sent-by : (v : ℕ) (x : Bool) → isDone (sends (CValue v) s q) ≡ x
       → (if x then model.doneBy (model.push v (model.acquire q)) else model.reply (codeOf (sends (CValue v) s q)) (fieldOf (sends (CValue v) s q)) [] [] q) ≡ step (TrySend s v) q
   unfolding step trySend sends
-  sent-by v x h = send-by q (model.doneBy (model.push v (model.acquire q))) (CValue v) (lookup (q .senders) s) (model.noReceiver q) (model.noFree q) (model.ringFull q) x h
+  sent-by v x h = send-by q (model.doneBy (model.push v (model.acquire q))) (CValue v) (wasClosed (q .senders) s) (lookup (q .senders) s) (model.noReceiver q) (model.noFree q) (model.ringFull q) x h
 
   reserved-by : (x : Bool) → isDone (reserves s q) ≡ x
       → (if x then model.givePermit s q (model.acquire q) else model.reply (codeOf (reserves s q)) (fieldOf (reserves s q)) [] [] q) ≡ step (TryRes s) q
   unfolding step tryRes reserves sends
-  reserved-by x h = res-by q (model.givePermit s q (model.acquire q)) (lookup (q .senders) s) (model.isUnbounded q) (model.noReceiver q) (model.noFree q) (leb 64 (length (q .values))) x h
+  reserved-by x h = res-by q (model.givePermit s q (model.acquire q)) (wasClosed (q .senders) s) (lookup (q .senders) s) (model.isUnbounded q) (model.noReceiver q) (model.noFree q) (leb 64 (length (q .values))) x h
 
 -- ---- Done: the sender is live, a receiver is left, a slot is free, and the ring has room; to reserve, slots are counted
 pub record Passed (s : ℕ) (q : model.Queue) : Type 0 where
@@ -154,32 +156,32 @@ pub record Passed (s : ℕ) (q : model.Queue) : Type 0 where
   pub left : model.noReceiver q ≡ false
   pub free : model.noFree q ≡ false
 
-all-passed : (c : Cargo) (alive gone full ring : Bool) → isDone (tried c alive gone full ring) ≡ true → (alive ≡ true) × (gone ≡ false) × (full ≡ false) × (ring ≡ false) × (tried c alive gone full ring ≡ Done)
-all-passed c false gone full ring h = let z : _≡_ {A = ℕ} 0 1 = cc in absurd (omega arith)
-all-passed c true true full ring h = let z : _≡_ {A = ℕ} 0 1 = cc in absurd (omega arith)
-all-passed c true false true ring h = let z : _≡_ {A = ℕ} 0 1 = cc in absurd (omega arith)
-all-passed c true false false true h = let z : _≡_ {A = ℕ} 0 1 = cc in absurd (omega arith)
-all-passed c true false false false h = (refl, refl, refl, refl, refl)
+all-passed : (c : Cargo) (closed alive gone full ring : Bool) → isDone (tried c closed alive gone full ring) ≡ true → (alive ≡ true) × (gone ≡ false) × (full ≡ false) × (ring ≡ false) × (tried c closed alive gone full ring ≡ Done)
+all-passed c closed false gone full ring h = let k = dead-not-done closed in let z : _≡_ {A = ℕ} 0 1 = cc in absurd (omega arith)
+all-passed c closed true true full ring h = let z : _≡_ {A = ℕ} 0 1 = cc in absurd (omega arith)
+all-passed c closed true false true ring h = let z : _≡_ {A = ℕ} 0 1 = cc in absurd (omega arith)
+all-passed c closed true false false true h = let z : _≡_ {A = ℕ} 0 1 = cc in absurd (omega arith)
+all-passed c closed true false false false h = (refl, refl, refl, refl, refl)
 
 send-passed : (c : Cargo) (s : ℕ) (q : model.Queue) → isDone (sends c s q) ≡ true → (Passed s q) × (model.ringFull q ≡ false) × (sends c s q ≡ Done)
 unfolding sends
 send-passed c s q h =
-    let p = all-passed c (isLive (lookup (q .senders) s)) (model.noReceiver q) (model.noFree q) (model.ringFull q) h in
+    let p = all-passed c (wasClosed (q .senders) s) (isLive (lookup (q .senders) s)) (model.noReceiver q) (model.noFree q) (model.ringFull q) h in
     (record { known = p .0; left = p .1; free = p .2 }, p .3, p .4)
 
 res-passed : (s : ℕ) (q : model.Queue) → isDone (reserves s q) ≡ true → (Passed s q) × (model.isUnbounded q ≡ false) × (reserves s q ≡ Done)
 unfolding reserves sends
 res-passed s q h = by (isLive (lookup (q .senders) s)) refl (model.isUnbounded q) refl
   where
-    at : (l u : Bool) → isLive (lookup (q .senders) s) ≡ l → model.isUnbounded q ≡ u → reserves s q ≡ (if l && u then WrongKind else tried Nothing l (model.noReceiver q) (model.noFree q) (u && leb 64 (length (q .values))))
+    at : (l u : Bool) → isLive (lookup (q .senders) s) ≡ l → model.isUnbounded q ≡ u → reserves s q ≡ (if l && u then WrongKind else tried Nothing (wasClosed (q .senders) s) l (model.noReceiver q) (model.noFree q) (u && leb 64 (length (q .values))))
     at l u e f =
-        ap₂ (λ (x y : Bool). if x && y then WrongKind else tried Nothing x (model.noReceiver q) (model.noFree q) (y && leb 64 (length (q .values)))) e f
+        ap₂ (λ (x y : Bool). if x && y then WrongKind else tried Nothing (wasClosed (q .senders) s) x (model.noReceiver q) (model.noFree q) (y && leb 64 (length (q .values)))) e f
 
     by : (l : Bool) → isLive (lookup (q .senders) s) ≡ l → (u : Bool) → model.isUnbounded q ≡ u → (Passed s q) × (model.isUnbounded q ≡ false) × (reserves s q ≡ Done)
-    by false e u f = let z : isDone (reserves s q) ≡ false = ap isDone (at false u e f) in let y : _≡_ {A = ℕ} 0 1 = cc in absurd (omega arith)
+    by false e u f = let z : isDone (reserves s q) ≡ false = ap isDone (at false u e f) ∙ dead-not-done (wasClosed (q .senders) s) in let y : _≡_ {A = ℕ} 0 1 = cc in absurd (omega arith)
     by true e true f = let z : isDone (reserves s q) ≡ false = ap isDone (at true true e f) in let y : _≡_ {A = ℕ} 0 1 = cc in absurd (omega arith)
     by true e false f =
-        let p = all-passed Nothing true (model.noReceiver q) (model.noFree q) false (sym (ap isDone (at true false e f)) ∙ h) in
+        let p = all-passed Nothing (wasClosed (q .senders) s) true (model.noReceiver q) (model.noFree q) false (sym (ap isDone (at true false e f)) ∙ h) in
         (record { known = e; left = p .1; free = p .2 }, f, at true false e f ∙ p .4)
 
 -- ---- what is told, and whether it is Done
@@ -290,11 +292,15 @@ module _ (q : Queue) (snd : Sound q) (p : ℕ) (b : Bool) (e : b ≡ isLive (loo
   room-redeemed d t k n f z = room-permit q snd p b e (ap not d) t k n f z
 
   module _ (what : What) (woken : Woken) (a : Answer) (u : Says what (wokenTokens woken) [] a) (q′ : Queue) where
-    pub redeemed-not : (v : ℕ) → b ≡ false → q′ ≡ q → what ≡ NoHandle → woken ≡ Nobody → Turned q (PermitSend p v) a q′
-    redeemed-not v d x y w = turned-as q (PermitSend p v) a q q′ x (permit-dead q snd p b e v a (ap not d) (said-as what NoHandle woken Nobody NoToken NoToken a y w refl u))
+    module _ (k : What) (d : b ≡ false) (g : k ≡ deadIn (permitsOf (q .permits)) p) (x : q′ ≡ q) (y : what ≡ k) (w : woken ≡ Nobody) where
+      said-dead : Says what [] [] a
+      said-dead = said-as what what woken Nobody NoToken NoToken a refl w refl u
 
-    pub dropped-not : b ≡ false → q′ ≡ q → what ≡ NoHandle → woken ≡ Nobody → Turned q (PermitDrop p) a q′
-    dropped-not d x y w = turned-as q (PermitDrop p) a q q′ x (drop-dead q snd p b e a (ap not d) (said-as what NoHandle woken Nobody NoToken NoToken a y w refl u))
+      pub redeemed-not : (v : ℕ) → Turned q (PermitSend p v) a q′
+      redeemed-not v = turned-as q (PermitSend p v) a q q′ x (permit-dead q snd p b e v what a (ap not d) (y ∙ g) said-dead)
+
+      pub dropped-not : Turned q (PermitDrop p) a q′
+      dropped-not = turned-as q (PermitDrop p) a q q′ x (drop-dead q snd p b e what a (ap not d) (y ∙ g) said-dead)
 
     module _ (d : b ≡ true) (t : Permits) (k : Drops (q .permits) p t) (n : ℕ) (f : n ≡ live (handlesOf (q .receivers))) where
       rest-shaped : Shaped (withPermits t q)

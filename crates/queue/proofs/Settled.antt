@@ -1,5 +1,5 @@
 -- EVERY EXIT OF A CALL: from an answer and a queue that are the definition's, the promise. Assumes nothing.
-use Prim.Native.Nat.{ℕ, _+_, _-_, _≤_}
+use Prim.Native.Nat.{ℕ, _+_, _-_, _<_, _≤_}
 use mathlib.Core.Path.{_≡_, refl, sym, ap, _∙_, subst}
 use mathlib.Core.Bool.{Bool, true, false, not}
 use mathlib.Core.List.{List, [], _∷_, _++_}
@@ -20,7 +20,7 @@ use Rattle.side.specs.declared.Woken.{Woken}
 use Rattle.side.specs.Meaning.{Deed, sideOf, deedOf, tokenList, wokenTokens}
 use Rattle.side.specs.Sound as side
 use Rattle.side.specs.Calls.{Open, Sees}
-use Rattle.model.specs.Table.{Table, lookup, live}
+use Rattle.model.specs.Table.{Table, lookup, wasClosed, live, if_then_else_}
 use Rattle.model.specs.Queue as model
 use Rattle.model.specs.declared.Call.{Call}
 use Rattle.model.specs.Calls.{begin, step, after}
@@ -37,7 +37,7 @@ use Rattle.queue.specs.declared.Turn.{Turn}
 use Rattle.queue.specs.Meaning.{roomOf, queueOf, Shaped, Sound}
 use Rattle.queue.specs.Answers.{codeOf, fieldOf, resultOf}
 use Rattle.queue.specs.Promise.{Turned}
-use Rattle.queue.specs.Steps.{Small, Says, Does}
+use Rattle.queue.specs.Steps.{Small, deadBy, deadIn, isDone, Says, Does}
 
 -- ---- one more call
 after-more : (cs : List Call) (c : Call) (q : model.Queue) → after (cs ++ (c ∷ [])) q ≡ step c (after cs q) .next
@@ -72,7 +72,30 @@ pub stays : (q : Queue) (c : Call) (what : What) (a : Answer) → Sound q → Sa
     → model.reply (codeOf what) (fieldOf what) [] [] (queueOf q) ≡ step c (queueOf q) → Turned q c a q
 stays q c what a s u e = settled q c a q s (s .shaped) (ap (λ (x : model.Ans). record { ans = x; next = queueOf q }) (u .is) ∙ e) (λ h. refl)
 
--- the queue changes, and the answer is no refusal
+-- ---- a number that is not live is answered 26 or 21, and nothing changes
+pub dead-told : (k closed : Bool) (what : What) → k ≡ closed → what ≡ deadBy k → what ≡ deadBy closed
+dead-told k closed what e w = w ∙ ap (λ (x : Bool). deadBy x) e
+
+pub dead-not-done : (closed : Bool) → isDone (deadBy closed) ≡ false
+dead-not-done true = refl
+dead-not-done false = refl
+
+pub not-dead : (closed : Bool) (what : What) → codeOf what < 20 → what ≡ deadBy closed → ⊥
+not-dead true what h e = let z : codeOf what ≡ 26 = ap codeOf e in omega arith
+not-dead false what h e = let z : codeOf what ≡ 21 = ap codeOf e in omega arith
+
+pub dead-replied : (closed : Bool) (q : model.Queue) → model.reply (codeOf (deadBy closed)) (fieldOf (deadBy closed)) [] [] q ≡ model.refuse (if closed then model.CLOSED else model.NO-HANDLE) q
+dead-replied true q = refl
+dead-replied false q = refl
+
+pub refuses : {A : Type 0} (q : Queue) (c : Call) (t : Table A) (n : ℕ) (what : What) (a : Answer) → Sound q → what ≡ deadIn t n → Says what [] [] a
+    → step c (queueOf q) ≡ model.refuse (model.dead t n) (queueOf q) → Turned q c a q
+refuses q c t n what a s w u e =
+    stays q c what a s u
+    (ap (λ (x : What). model.reply (codeOf x) (fieldOf x) [] [] (queueOf q)) w
+    ∙ (dead-replied (wasClosed t n) (queueOf q) ∙ sym e))
+
+-- ---- the queue changes, and the answer is no refusal
 pub moves : (q : Queue) (c : Call) (what : What) (w t : List ℕ) (a : Answer) (q′ : Queue) → Sound q → Shaped q′ → Says what w t a → ltb (codeOf what) 20 ≡ true
     → model.reply (codeOf what) (fieldOf what) w t (queueOf q′) ≡ step c (queueOf q) → Turned q c a q′
 moves q c what w t a q′ s k u b e =

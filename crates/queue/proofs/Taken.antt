@@ -1,5 +1,5 @@
 -- The one exit of what receivers do, by the way that led there. Assumes nothing.
-use Prim.Native.Nat.{ℕ, _+_}
+use Prim.Native.Nat.{ℕ, _+_, _<_}
 use mathlib.Core.Path.{_≡_, refl, sym, ap, ap₂, _∙_, subst}
 use mathlib.Core.Bool.{Bool, true, false, not}
 use mathlib.Core.List.{List, [], _∷_}
@@ -32,7 +32,7 @@ use Rattle.side.specs.declared.Opened.{Opened}
 use Rattle.side.specs.declared.Pended.{Pended}
 use Rattle.side.specs.Meaning.{Deed, sideOf, stageOf, viewed, tokenList, wokenTokens}
 use Rattle.side.specs.Calls.{Open, Sees, Opens, Ends, Pends, CallsOne}
-use Rattle.model.specs.Table.{lookup, live}
+use Rattle.model.specs.Table.{lookup, wasClosed, live}
 use Rattle.model.specs.Side as side
 use Rattle.model.specs.Queue as model
 use Rattle.model.specs.declared.Call.the-variants.{Recv, TryRecv, PollIn, CancelIn}
@@ -41,15 +41,15 @@ use Rattle.model.proofs.Leaves.{tryRecv-dead, tryRecv-value, tryRecv-gone, tryR
 use Rattle.queue.specs.declared.Queue.{Queue}
 use Rattle.queue.specs.declared.available.Available.{Available}
 use Rattle.queue.specs.declared.What.{What}
-use Rattle.queue.specs.declared.What.the-variants.{Done, Value as WValue, Given as WGiven, Pending, Empty, Disconnected, NoHandle, NoRoom}
+use Rattle.queue.specs.declared.What.the-variants.{Done, Value as WValue, Given as WGiven, Pending, Empty, Disconnected, NoRoom}
 use Rattle.queue.specs.declared.Answer.{Answer}
 use Rattle.queue.specs.declared.Turn.{Turn}
 use Rattle.queue.specs.Meaning.{roomOf, queueOf, Shaped, Sound}
 use Rattle.queue.specs.Answers.{codeOf, fieldOf}
 use Rattle.queue.specs.Promise.{Turned}
-use Rattle.queue.specs.Steps.{Says, takable, takableOf, receivable, receivableOf, pollable, keptOf, passes}
+use Rattle.queue.specs.Steps.{deadIn, Says, takable, takableOf, receivable, receivableOf, pollable, keptOf, passes}
 use Rattle.queue.proofs.Moves.{Notifies, Releases, releasing}
-use Rattle.queue.proofs.Settled.{kept, stays, moves, does, turned-as, said-as, withValues, withFree, withOuts, withIns, shaped-values, shaped-ins, dead, alive, none-left, some-left, found-open}
+use Rattle.queue.proofs.Settled.{not-dead, dead-replied, kept, stays, refuses, moves, does, turned-as, said-as, withValues, withFree, withOuts, withIns, shaped-values, shaped-ins, dead, alive, none-left, some-left, found-open}
 use Rattle.queue.proofs.Sending.{notify-nobody, notify-one, release-free, release-grant, sees-found}
 use Rattle.queue.proofs.Receiving.{Pops, first-value, first-nothing, recv-dead, recv-full, recv-given, leave-in-dead, leave-in-passed, leave-in-other}
 use Rattle.queue.proofs.What.{the-type}
@@ -76,11 +76,11 @@ module _ (q : Queue) (empty : What) (p : Popped) (k : Pops q p) where
 
 -- ---- receivable
 module _ (q : Queue) (s : ℕ) (b : Bool) (e : b ≡ isLive (lookup (handlesOf (q .receivers)) s)) where
-  by-receiver : (o : Option model.Mark) → lookup (handlesOf (q .receivers)) s ≡ o → receivable s (queueOf q) ≡ receivableOf o (queueOf q)
-  by-receiver o f = ap (λ (x : Option model.Mark). receivableOf x (queueOf q)) f
+  by-receiver : (o : Option model.Mark) → lookup (handlesOf (q .receivers)) s ≡ o → receivable s (queueOf q) ≡ receivableOf s o (queueOf q)
+  by-receiver o f = ap (λ (x : Option model.Mark). receivableOf s x (queueOf q)) f
 
-  pub receivable-dead : b ≡ false → NoHandle ≡ receivable s (queueOf q)
-  receivable-dead d = sym (by-receiver none (dead _ b e (ap not d)))
+  pub receivable-dead : (what : What) → b ≡ false → what ≡ deadIn (handlesOf (q .receivers)) s → what ≡ receivable s (queueOf q)
+  receivable-dead what d w = w ∙ sym (by-receiver none (dead _ b e (ap not d)))
 
   pub receivable-live : (what : What) → b ≡ true → what ≡ takable Empty (queueOf q) → what ≡ receivable s (queueOf q)
   receivable-live what d f = let l = alive _ b e (ap not d) in f ∙ sym (by-receiver (some (l .0)) (l .1))
@@ -92,9 +92,9 @@ value-told empty [] true v n e = let z : _≡_ {A = ℕ} 0 1 = cc in absurd (ome
 value-told empty [] false v n e = absurd (n (sym e))
 value-told empty (x ∷ l) gone v n e = let z : v ≡ x = cc in ap (λ (y : ℕ). y ∷ l) (sym z)
 
-value-live : (o : Option model.Mark) (q : model.Queue) (v : ℕ) → WValue v ≡ receivableOf o q → (a : model.Mark) × (o ≡ some a) × (WValue v ≡ takable Empty q)
-value-live none q v e = let z : _≡_ {A = ℕ} 0 1 = cc in absurd (omega arith)
-value-live (some a) q v e = (a, refl, e)
+value-live : (s : ℕ) (o : Option model.Mark) (q : model.Queue) (v : ℕ) → WValue v ≡ receivableOf s o q → (a : model.Mark) × (o ≡ some a) × (WValue v ≡ takable Empty q)
+value-live s none q v e = absurd (not-dead (wasClosed (q .receivers) s) (WValue v) (omega arith) e)
+value-live s (some a) q v e = (a, refl, e)
 
 receiver-left : (q : Queue) → Sound q → (v : ℕ) (l : List ℕ) → ring.values (q .values) ≡ v ∷ l → live (handlesOf (q .receivers)) ≡ 0 → ⊥
 receiver-left q snd v l e z = let g = kept q snd .account .gone z in let h : length (ring.values (q .values)) ≡ length (v ∷ l) = ap length e in omega arith
@@ -111,7 +111,7 @@ module _ (m : Queue) (sh : Shaped m) (z : live (handlesOf (m .receivers)) ≡ 0 
 -- ---- try_recv
 -- the tags that try_recv has no arm for: all but that of Value
 abbrev untaken : List ℕ
-untaken = 0 ∷ 1 ∷ 3 ∷ 4 ∷ 5 ∷ 6 ∷ 7 ∷ 8 ∷ 9 ∷ 10 ∷ 11 ∷ 12 ∷ 13 ∷ 14 ∷ []
+untaken = 0 ∷ 1 ∷ 3 ∷ 4 ∷ 5 ∷ 6 ∷ 7 ∷ 8 ∷ 9 ∷ 10 ∷ 11 ∷ 12 ∷ 13 ∷ 14 ∷ 15 ∷ []
 
 -- where it takes nothing it answers what it is told, and changes nothing
 module _ (s : ℕ) (q : model.Queue) (what : What) (t : OneOf untaken (tagOf the-type what)) where
@@ -127,8 +127,8 @@ module _ (s : ℕ) (q : model.Queue) (what : What) (t : OneOf untaken (tagOf the
       taking a d [] f false h x = answered Empty x ∙ sym (tryRecv-empty s q a d f h)
       taking a d (v ∷ l) f g h x = absurd (none-of untaken what (WValue v) t x tt)
 
-      by : (o : Option model.Mark) → lookup (q .receivers) s ≡ o → what ≡ receivableOf o q → model.reply (codeOf what) (fieldOf what) [] [] q ≡ tryRecv s q
-      by none d x = answered NoHandle x ∙ sym (tryRecv-dead s q d)
+      by : (o : Option model.Mark) → lookup (q .receivers) s ≡ o → what ≡ receivableOf s o q → model.reply (codeOf what) (fieldOf what) [] [] q ≡ tryRecv s q
+      by none d x = answered (deadIn (q .receivers) s) x ∙ (dead-replied (wasClosed (q .receivers) s) q ∙ sym (tryRecv-dead s q d))
       by (some a) d x = taking a d (q .values) refl (model.noSender q) refl x
 
 module _ (q : Queue) (snd : Sound q) (s : ℕ) (what : What) (e : what ≡ receivable s (queueOf q)) (woken : Woken) (a : Answer) (u : Says what (wokenTokens woken) [] a) (q′ : Queue) where
@@ -140,7 +140,7 @@ module _ (q : Queue) (snd : Sound q) (s : ℕ) (what : What) (e : what ≡ recei
 
   module _ (v : ℕ) (f : what ≡ WValue v) (x : Ring) (k : ring.Holds (ring.rest (ring.values (q .values))) x) where
     live-one : (m : model.Mark) × (lookup (handlesOf (q .receivers)) s ≡ some m) × (WValue v ≡ takable Empty (queueOf q))
-    live-one = value-live (lookup (handlesOf (q .receivers)) s) (queueOf q) v (sym f ∙ e)
+    live-one = value-live s (lookup (handlesOf (q .receivers)) s) (queueOf q) v (sym f ∙ e)
 
     first-one : ring.values (q .values) ≡ v ∷ ring.rest (ring.values (q .values))
     first-one = value-told Empty (ring.values (q .values)) (model.noSender (queueOf q)) v (λ h. let z : _≡_ {A = ℕ} 0 1 = cc in omega arith) (live-one .2)
@@ -177,17 +177,17 @@ kept-missing view f = sym (ap (λ (x : View). keptOf (viewed x)) f)
 pub kept-found : (view : View) (e : Entry) (l : List ℕ) → view ≡ Found e → l ≡ side.kept (stageOf (e .stage)) → l ≡ keptOf (viewed view)
 kept-found view e l f h = h ∙ sym (ap (λ (x : View). keptOf (viewed x)) f)
 
-module _ (q : Queue) (view : View) where
-  pub pollable-missing : view ≡ Missing → NoHandle ≡ pollable (viewed view) (queueOf q)
-  pollable-missing f = sym (ap (λ (x : View). pollable (viewed x) (queueOf q)) f)
+module _ (q : Queue) (n : ℕ) (view : View) where
+  pub pollable-missing : (what : What) → view ≡ Missing → what ≡ deadIn (sideOf (q .ins) .ops) n → what ≡ pollable n (viewed view) (queueOf q)
+  pollable-missing what f w = w ∙ sym (ap (λ (x : View). pollable n (viewed x) (queueOf q)) f)
 
-  pub pollable-found : (e : Entry) (what : What) → view ≡ Found e → what ≡ takable Pending (queueOf q) → what ≡ pollable (viewed view) (queueOf q)
-  pollable-found e what f h = h ∙ sym (ap (λ (x : View). pollable (viewed x) (queueOf q)) f)
+  pub pollable-found : (e : Entry) (what : What) → view ≡ Found e → what ≡ takable Pending (queueOf q) → what ≡ pollable n (viewed view) (queueOf q)
+  pollable-found e what f h = h ∙ sym (ap (λ (x : View). pollable n (viewed x) (queueOf q)) f)
 
 -- ---- what the answers of a poll-in tell
-open-told : (o : Option Deed) (q : model.Queue) (what : What) → what ≡ pollable o q → (what ≡ NoHandle → ⊥) → (op : Deed) × (o ≡ some op) × (what ≡ takable Pending q)
-open-told none q what e n = absurd (n e)
-open-told (some op) q what e n = (op, refl, e)
+open-told : (n : ℕ) (o : Option Deed) (q : model.Queue) (what : What) → what ≡ pollable n o q → codeOf what < 20 → (op : Deed) × (o ≡ some op) × (what ≡ takable Pending q)
+open-told n none q what e h = absurd (not-dead (wasClosed (q .ins .ops) n) what h e)
+open-told n (some op) q what e h = (op, refl, e)
 
 gone-told : (l : List ℕ) (gone : Bool) (c : Cargo) → Disconnected c ≡ takableOf Pending l gone → (l ≡ []) × (gone ≡ true) × (c ≡ Nothing)
 gone-told [] true c e = (refl, refl, cc)
@@ -201,21 +201,21 @@ pending-told (x ∷ l) gone e = let z : _≡_ {A = ℕ} 0 1 = cc in absurd (omeg
 
 -- the tags that poll_in has no arm for: all but those of Value, Pending and Disconnected
 abbrev unpolled : List ℕ
-unpolled = 0 ∷ 1 ∷ 3 ∷ 5 ∷ 6 ∷ 7 ∷ 9 ∷ 10 ∷ 11 ∷ 12 ∷ 13 ∷ 14 ∷ []
+unpolled = 0 ∷ 1 ∷ 3 ∷ 5 ∷ 6 ∷ 7 ∷ 9 ∷ 10 ∷ 11 ∷ 12 ∷ 13 ∷ 14 ∷ 15 ∷ []
 
 -- ---- poll_in
-module _ (q : Queue) (snd : Sound q) (n : ℕ) (view : View) (sees : Sees (q .ins) n view) (what : What) (e : what ≡ pollable (viewed view) (queueOf q)) where
-  open-at : (what ≡ NoHandle → ⊥) → (op : Deed) × (lookup (sideOf (q .ins) .ops) n ≡ some op) × (viewed view ≡ some op) × (what ≡ takable Pending (queueOf q))
-  open-at z = let o = open-told (viewed view) (queueOf q) what e z in (o .0, sym sees ∙ o .1, o .1, o .2)
+module _ (q : Queue) (snd : Sound q) (n : ℕ) (view : View) (sees : Sees (q .ins) n view) (what : What) (e : what ≡ pollable n (viewed view) (queueOf q)) where
+  open-at : codeOf what < 20 → (op : Deed) × (lookup (sideOf (q .ins) .ops) n ≡ some op) × (viewed view ≡ some op) × (what ≡ takable Pending (queueOf q))
+  open-at z = let o = open-told n (viewed view) (queueOf q) what e z in (o .0, sym sees ∙ o .1, o .1, o .2)
 
   of-value : (v : ℕ) → what ≡ WValue v → (op : Deed) × (lookup (sideOf (q .ins) .ops) n ≡ some op) × (viewed view ≡ some op) × (what ≡ takable Pending (queueOf q))
-  of-value v f = open-at (λ h. let z : _≡_ {A = ℕ} 0 1 = cc in omega arith)
+  of-value v f = open-at (let z = ap codeOf f in omega arith)
 
   of-gone : (c : Cargo) → what ≡ Disconnected c → (op : Deed) × (lookup (sideOf (q .ins) .ops) n ≡ some op) × (viewed view ≡ some op) × (what ≡ takable Pending (queueOf q))
-  of-gone c f = open-at (λ h. let z : _≡_ {A = ℕ} 0 1 = cc in omega arith)
+  of-gone c f = open-at (let z = ap codeOf f in omega arith)
 
   of-pending : what ≡ Pending → (op : Deed) × (lookup (sideOf (q .ins) .ops) n ≡ some op) × (viewed view ≡ some op) × (what ≡ takable Pending (queueOf q))
-  of-pending f = open-at (λ h. let z : _≡_ {A = ℕ} 0 1 = cc in omega arith)
+  of-pending f = open-at (let z = ap codeOf f in omega arith)
 
   pub open-value : (v : ℕ) → what ≡ WValue v → Open (q .ins) n
   open-value v f = let o = of-value v f in (o .0, o .1)
@@ -293,17 +293,16 @@ module _ (q : Queue) (snd : Sound q) (n : ℕ) (view : View) (sees : Sees (q .in
     in-refused z h m w =
         let f = by (viewed view) e in
         turned-as q (PollIn n t) a q q′ h
-        (stays q (PollIn n t) NoHandle a snd
-        (subst (λ (l : List ℕ). Says NoHandle [] l a) (y ∙ ap (λ (x : Option Deed). keptOf x) f)
-        (said-as what NoHandle woken NoOne retired kept a (e ∙ ap (λ (x : Option Deed). pollable x (queueOf q)) f) w m u))
-        (sym (pollIn-dead n t (queueOf q) (sym sees ∙ f))))
+        (refuses q (PollIn n t) (sideOf (q .ins) .ops) n what a snd (e ∙ ap (λ (x : Option Deed). pollable n x (queueOf q)) f)
+        (subst (λ (l : List ℕ). Says what [] l a) (y ∙ ap (λ (x : Option Deed). keptOf x) f) (said-as what what woken NoOne retired kept a refl w m u))
+        (pollIn-dead n t (queueOf q) (sym sees ∙ f)))
       where
         told : (l : List ℕ) (gone : Bool) → what ≡ takableOf Pending l gone → ⊥
         told [] true x = none-of unpolled what (Disconnected Nothing) z x tt
         told [] false x = none-of unpolled what Pending z x tt
         told (v ∷ l) gone x = none-of unpolled what (WValue v) z x tt
 
-        by : (o : Option Deed) → what ≡ pollable o (queueOf q) → o ≡ none
+        by : (o : Option Deed) → what ≡ pollable n o (queueOf q) → o ≡ none
         by none x = refl
         by (some op) x = absurd (told (ring.values (q .values)) (model.noSender (queueOf q)) x)
 
@@ -313,9 +312,9 @@ seen-open s n view e sees f = found-open s n e (sees-found s n view e sees f)
 
 module _ (q : Queue) (snd : Sound q) (n : ℕ) (view : View) (sees : Sees (q .ins) n view)
     (what : What) (woken : Woken) (retired : OptToken) (a : Answer) (u : Says what (wokenTokens woken) (tokenList retired) a) (q′ : Queue) where
-  pub left-missing : view ≡ Missing → q′ ≡ q → what ≡ NoHandle → woken ≡ NoOne → retired ≡ NoToken → Turned q (CancelIn n) a q′
-  left-missing f h e w m =
-      turned-as q (CancelIn n) a q q′ h (leave-in-dead q n view a snd sees f (said-as what NoHandle woken NoOne retired NoToken a e w m u))
+  pub left-missing : (k : What) → view ≡ Missing → k ≡ deadIn (sideOf (q .ins) .ops) n → q′ ≡ q → what ≡ k → woken ≡ NoOne → retired ≡ NoToken → Turned q (CancelIn n) a q′
+  left-missing k f d h e w m =
+      turned-as q (CancelIn n) a q q′ h (leave-in-dead q n view what a snd sees f (e ∙ d) (said-as what what woken NoOne retired NoToken a refl w m u))
 
   module _ (op : Entry) (f : view ≡ Found op) (left queued : ℕ) (g : left ≡ live (handlesOf (q .senders))) (h : queued ≡ length (ring.values (q .values)))
       (o : Side) (x : Ends (q .ins) n o) (b : Bool) (y : b ≡ passes (stageOf (op .stage)) left queued) (e : what ≡ Done) where
@@ -345,8 +344,8 @@ module _ (q : Queue) (snd : Sound q) (s : ℕ) (b : Bool) (e : b ≡ isLive (loo
   says-so : (x : What) → what ≡ x → Says x [] [] a
   says-so x f = subst (λ (y : What). Says y [] [] a) f u
 
-  pub opened-dead : b ≡ false → q′ ≡ q → what ≡ NoHandle → Turned q (Recv s) a q′
-  opened-dead d h f = turned-as q (Recv s) a q q′ h (recv-dead q snd s b e a (ap not d) (says-so NoHandle f))
+  pub opened-dead : (k : What) → b ≡ false → k ≡ deadIn (handlesOf (q .receivers)) s → q′ ≡ q → what ≡ k → Turned q (Recv s) a q′
+  opened-dead k d w h f = turned-as q (Recv s) a q q′ h (recv-dead q snd s b e what a (ap not d) (f ∙ w) u)
 
   module _ (d : b ≡ true) (o : Opened) (k : Opens (q .ins) s Nothing o) where
     pub opened-full : o .number ≡ NoNumber → q′ ≡ q → what ≡ NoRoom → Turned q (Recv s) a q′

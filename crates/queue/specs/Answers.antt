@@ -7,7 +7,7 @@ use Rattle.model.specs.Queue as model
 use Rattle.model.specs.Calls.{shown}
 use Rattle.queue.specs.declared.Queue.{Queue}
 use Rattle.queue.specs.declared.What.{What}
-use Rattle.queue.specs.declared.What.the-variants.{Done, Discarded, Value, Given, Pending, Status, Full, Empty, Disconnected, BadCapacity, NoHandle, InUse, NoRoom, RingFull, WrongKind}
+use Rattle.queue.specs.declared.What.the-variants.{Done, Discarded, Value, Given, Pending, Status, Full, Empty, Disconnected, BadCapacity, NoHandle, Closed, InUse, NoRoom, RingFull, WrongKind}
 use Rattle.queue.specs.declared.Answer.{Answer}
 use Rattle.queue.specs.Meaning.{roomOf, queueOf}
 
@@ -23,6 +23,7 @@ codeOf Empty = model.EMPTY
 codeOf (Disconnected c) = model.DISCONNECTED
 codeOf BadCapacity = model.BAD-CAPACITY
 codeOf NoHandle = model.NO-HANDLE
+codeOf Closed = model.CLOSED
 codeOf InUse = model.IN-USE
 codeOf NoRoom = model.NO-ROOM
 codeOf RingFull = model.RING-FULL
@@ -40,6 +41,7 @@ fieldOf Empty = []
 fieldOf (Disconnected c) = model.cargo (carried c)
 fieldOf BadCapacity = []
 fieldOf NoHandle = []
+fieldOf Closed = []
 fieldOf InUse = []
 fieldOf NoRoom = []
 fieldOf RingFull = []

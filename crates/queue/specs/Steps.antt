@@ -17,7 +17,7 @@ use Rattle.side.specs.declared.Entry.{Entry}
 use Rattle.side.specs.declared.View.{View}
 use Rattle.side.specs.declared.View.the-variants.{Missing, Found}
 use Rattle.side.specs.Meaning.{stageOf}
-use Rattle.model.specs.Table.{blank, lookup, live, if_then_else_}
+use Rattle.model.specs.Table.{Table, blank, lookup, wasClosed, live, if_then_else_}
 use Rattle.model.specs.Side as side
 use Rattle.model.specs.Queue as model
 use Rattle.model.specs.declared.Call.{Call}
@@ -27,7 +27,7 @@ use Rattle.queue.specs.declared.Room.{Room}
 use Rattle.queue.specs.declared.Room.the-variants.{Unbounded, Slots}
 use Rattle.queue.specs.declared.Counts.{Counts}
 use Rattle.queue.specs.declared.What.{What}
-use Rattle.queue.specs.declared.What.the-variants.{Done, Discarded, Value as WValue, Given as WGiven, Pending, Status as WStatus, Full, Empty, Disconnected, BadCapacity, NoHandle, InUse, NoRoom, RingFull, WrongKind}
+use Rattle.queue.specs.declared.What.the-variants.{Done, Discarded, Value as WValue, Given as WGiven, Pending, Status as WStatus, Full, Empty, Disconnected, BadCapacity, NoHandle, Closed, InUse, NoRoom, RingFull, WrongKind}
 use Rattle.queue.specs.declared.Answer.{Answer}
 use Rattle.queue.specs.declared.Turn.{Turn}
 use Rattle.queue.specs.declared.available.Available.{Available}
@@ -59,6 +59,14 @@ silenced q = model.reply model.DONE [] (side.allTokens (q .ins)) [] (model.setIn
 pub record Silences (q : Queue) (r : Turn) : Type 0 where
   pub does : Does (silenced (queueOf q)) r
 
+-- ---- what a call answers to a number that is not live: it was given and is closed, or it was never given
+abbrev pub deadBy : Bool → What
+deadBy true = Closed
+deadBy false = NoHandle
+
+abbrev pub deadIn : {A : Type 0} → Table A → ℕ → What
+deadIn t n = deadBy (wasClosed t n)
+
 -- ---- what receivers are told
 -- of these values, where the senders are gone or not: the first; or that none will ever come; else the answer given as `empty`
 abbrev pub takableOf : What → List ℕ → Bool → What
@@ -69,17 +77,17 @@ abbrev pub takable : What → model.Queue → What
 takable empty q = takableOf empty (q .values) (model.noSender q)
 
 -- a try-recv by a receiver, which is live or not
-abbrev pub receivableOf : Option model.Mark → model.Queue → What
-receivableOf none q = NoHandle
-receivableOf (some a) q = takable Empty q
+abbrev pub receivableOf : ℕ → Option model.Mark → model.Queue → What
+receivableOf r none q = deadIn (q .receivers) r
+receivableOf r (some a) q = takable Empty q
 
 abbrev pub receivable : ℕ → model.Queue → What
-receivable r q = receivableOf (lookup (q .receivers) r) q
+receivable r q = receivableOf r (lookup (q .receivers) r) q
 
--- a poll-in of an operation, which is open or not; and the token that the operation keeps
-abbrev pub pollable : Option (side.Op model.Job) → model.Queue → What
-pollable none q = NoHandle
-pollable (some op) q = takable Pending q
+-- a poll-in of the operation n, which is open or not; and the token that the operation keeps
+abbrev pub pollable : ℕ → Option (side.Op model.Job) → model.Queue → What
+pollable n none q = deadIn (q .ins .ops) n
+pollable n (some op) q = takable Pending q
 
 abbrev pub keptOf : Option (side.Op model.Job) → List ℕ
 keptOf none = []
@@ -111,17 +119,18 @@ isDone Empty = false
 isDone (Disconnected c) = false
 isDone BadCapacity = false
 isDone NoHandle = false
+isDone Closed = false
 isDone InUse = false
 isDone NoRoom = false
 isDone RingFull = false
 isDone WrongKind = false
 
 -- ---- what a try-send of the sender s answers, by the definition's tests; c is what goes back where it does not go through
-abbrev pub tried : Cargo → Bool → Bool → Bool → Bool → What
-tried c known gone full ringFull = if known then (if gone then Disconnected c else (if full then Full c else (if ringFull then RingFull else Done))) else NoHandle
+abbrev pub tried : Cargo → Bool → Bool → Bool → Bool → Bool → What
+tried c closed known gone full ringFull = if known then (if gone then Disconnected c else (if full then Full c else (if ringFull then RingFull else Done))) else deadBy closed
 
 unfoldable pub sends : Cargo → ℕ → model.Queue → What
-sends c s q = tried c (isLive (lookup (q .senders) s)) (model.noReceiver q) (model.noFree q) (model.ringFull q)
+sends c s q = tried c (wasClosed (q .senders) s) (isLive (lookup (q .senders) s)) (model.noReceiver q) (model.noFree q) (model.ringFull q)
 
 -- ---- and a try-res: on an unbounded queue nothing can be reserved
 unfoldable pub reserves : ℕ → model.Queue → What

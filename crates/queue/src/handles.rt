@@ -4,6 +4,7 @@ use crate::Answer;
 use crate::Queue;
 use crate::Turn;
 use crate::What;
+use crate::dead::dead_handle;
 use crate::says::plain;
 use side::OptToken;
 use tables::Number;
@@ -21,7 +22,8 @@ impl Queue {
     {
         let handles = self.senders;
         if !handles.has(n) {
-            let answer = plain(What::NoHandle);
+            let what = dead_handle(handles, n);
+            let answer = plain(what);
             return Turn {
                 answer: answer,
                 queue: self,
@@ -55,7 +57,8 @@ impl Queue {
     {
         let handles = self.receivers;
         if !handles.has(n) {
-            let answer = plain(What::NoHandle);
+            let what = dead_handle(handles, n);
+            let answer = plain(what);
             return Turn {
                 answer: answer,
                 queue: self,
@@ -124,7 +127,8 @@ impl Queue {
     {
         let senders = self.senders;
         if !senders.has(n) {
-            let answer = plain(What::NoHandle);
+            let what = dead_handle(senders, n);
+            let answer = plain(what);
             return Turn {
                 answer: answer,
                 queue: self,
@@ -180,7 +184,8 @@ impl Queue {
     {
         let receivers = self.receivers;
         if !receivers.has(n) {
-            let answer = plain(What::NoHandle);
+            let what = dead_handle(receivers, n);
+            let answer = plain(what);
             return Turn {
                 answer: answer,
                 queue: self,

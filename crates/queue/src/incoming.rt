@@ -2,6 +2,8 @@
 use crate::Queue;
 use crate::Turn;
 use crate::What;
+use crate::dead::dead_handle;
+use crate::dead::dead_operation;
 use crate::says::plain;
 use crate::says::say;
 use ring::Front;
@@ -76,6 +78,8 @@ impl Queue {
                     self.ins = side;
                 }
             }
+        } else {
+            what = dead_handle(receivers, r);
         }
         let answer = plain(what);
         Turn {
@@ -114,7 +118,7 @@ impl Queue {
         if receivers.has(r) {
             return self.takable(What::Empty);
         }
-        What::NoHandle
+        dead_handle(receivers, r)
     }
 
     // Where there is a value to take, a receiver is left, so that its slot, if slots are counted, is the first waiting sender's or free.
@@ -148,13 +152,16 @@ impl Queue {
         }
     }
 
-    // What a poll-in answers of an operation that is open or not.
-    fn pollable(self, view: View) -> What
+    // What a poll-in answers of the operation n, which is open or not.
+    fn pollable(self, n: u32, view: View) -> What
         requires { ⌜ Sound self ⌝ }
-        ensures { λ x. ⌜ x ≡ pollable (viewed view) (queueOf self) ⌝ }
+        ensures { λ x. ⌜ x ≡ pollable n (viewed view) (queueOf self) ⌝ }
     {
         match view {
-            View::Missing => What::NoHandle,
+            View::Missing => {
+                let ins = self.ins;
+                dead_operation(ins, n)
+            }
             View::Found(_) => self.takable(What::Pending),
         }
     }
@@ -165,7 +172,7 @@ impl Queue {
     {
         let ins = self.ins;
         let view = ins.get(n);
-        let what = self.pollable(view);
+        let what = self.pollable(n, view);
         let mut retired = kept_of(view);
         let mut woken = Woken::Nobody;
         match what {
@@ -210,7 +217,9 @@ impl Queue {
         let mut woken = Woken::Nobody;
         let mut retired = OptToken::NoToken;
         match view {
-            View::Missing => {}
+            View::Missing => {
+                what = dead_operation(ins, n);
+            }
             View::Found(op) => {
                 let stage = op.stage;
                 let senders = self.senders;

@@ -3,6 +3,7 @@
 // The meaning of a queue is the definition's (`queueOf`, specs/Meaning.antt), the promise of every call is `Turned` and that of both makes `Made`
 // (specs/Promise.antt); answers have document 01's numbers by specs/Answers.antt.
 mod available;
+mod dead;
 mod handles;
 mod incoming;
 mod outgoing;
@@ -67,6 +68,7 @@ pub enum What {
     Disconnected(Cargo),
     BadCapacity,
     NoHandle,
+    Closed,
     InUse,
     NoRoom,
     RingFull,

@@ -4,6 +4,9 @@ use crate::Queue;
 use crate::Turn;
 use crate::What;
 use crate::available::Available;
+use crate::dead::dead_handle;
+use crate::dead::dead_operation;
+use crate::dead::dead_permit;
 use crate::says::plain;
 use crate::says::say;
 use ring::Ring;
@@ -105,6 +108,7 @@ fn is_done(what: What) -> bool
         What::Disconnected(_) => false,
         What::BadCapacity => false,
         What::NoHandle => false,
+        What::Closed => false,
         What::InUse => false,
         What::NoRoom => false,
         What::RingFull => false,
@@ -134,7 +138,7 @@ impl Queue {
             }
             return What::Done;
         }
-        What::NoHandle
+        dead_handle(senders, s)
     }
 
     // Does an unbounded queue hold all that its ring holds?
@@ -250,6 +254,8 @@ impl Queue {
                     }
                 }
             }
+        } else {
+            what = dead_handle(senders, s);
         }
         let answer = plain(what);
         Turn {
@@ -287,7 +293,9 @@ impl Queue {
         let now = self.free;
         let outcome = outcome_of(view, left, now);
         match outcome {
-            Outcome::NoHandle => {}
+            Outcome::NoHandle => {
+                what = dead_operation(outs, n);
+            }
             Outcome::Gone(cargo) => {
                 self.outs = outs.end(n);
                 what = What::Disconnected(cargo);
@@ -349,7 +357,9 @@ impl Queue {
         let outs = self.outs;
         let view = outs.get(n);
         match view {
-            View::Missing => {}
+            View::Missing => {
+                what = dead_operation(outs, n);
+            }
             View::Found(op) => {
                 what = What::Done;
                 let stage = op.stage;
@@ -404,6 +414,8 @@ impl Queue {
                     self.ins = side;
                 }
             }
+        } else {
+            what = dead_permit(permits, p);
         }
         let answer = say(what, woken, OptToken::NoToken);
         Turn {
@@ -437,6 +449,8 @@ impl Queue {
                     self.outs = side;
                 }
             }
+        } else {
+            what = dead_permit(permits, p);
         }
         let answer = say(what, woken, OptToken::NoToken);
         Turn {

@@ -19,10 +19,10 @@ use Rattle.waitlist.proofs.Laws.{map-same}
 use Rattle.live.specs.Bits.{liveOf}
 use Rattle.live.proofs.Laws.{length-live, live-below}
 use Rattle.live.proofs.Tables.{held-live, held-free}
-use Rattle.model.specs.Table.{vacant, holds, atTurn, LAST-TURN, lookup}
+use Rattle.model.specs.Table.{holds, atTurn, LAST-TURN, lookup}
 use Rattle.model.proofs.TableLaws.{on-turn}
-use Rattle.tables.specs.Places.{Used, placeAt, placesOf}
-use Rattle.tables.proofs.PlaceLaws.{number-place, number-turn, Stands, stands}
+use Rattle.tables.specs.Places.{Used, placeAt}
+use Rattle.tables.proofs.PlaceLaws.{number-place, number-turn, places-at, Stands, stands}
 use Rattle.tables.proofs.WordLaws.{wide}
 use Rattle.side.specs.declared.Op.{Op}
 use Rattle.side.specs.declared.Side.{Side}
@@ -84,15 +84,6 @@ wiped-set live live' xs p x inside other here h k e = go (ℕ-discrete k p)
     go (no d) = wiped-by (getD (set xs p x) k freshOp) (getD xs k freshOp) (getD-set-other xs p k x freshOp d) (h k (sym (other k d) ∙ e))
 
 -- ---- what stands at a place of the model's table
-module _ {A R : Type 0} (turn : A → ℕ) (recorded : A → R) where
-  pub places-at : (l : List Bool) (xs : List A) (i : ℕ) (d : A) → i < length xs → length xs ≤ length l
-      → getD (placesOf turn recorded l xs) i (vacant 0) ≡ placeAt turn recorded (getD l i false) (getD xs i d)
-  unfolding placesOf
-  places-at l [] i d h g = absurd (omega arith)
-  places-at [] (x ∷ xs) i d h g = absurd (omega arith)
-  places-at (b ∷ l) (x ∷ xs) zero d h g = refl
-  places-at (b ∷ l) (x ∷ xs) (suc i) d h g = places-at l xs i d (omega arith) (omega arith)
-
 module _ (s : Side) (snd : Sound s) where
   abbrev bits : List Bool
   bits = liveOf (s .live)

@@ -6,7 +6,8 @@ use mathlib.Core.List.{List, [], _∷_, map, List·Memᴰ, List·Memᴰ·not-nil
 use mathlib.Core.Option.{Option, none, some}
 use native.Mathlib.Omega.{arith}
 use borrow.Author.Tests.{eq-eqb, ne-eqb}
-use lib.ListN.{length, getD, set, replicate, List·getD-eq-default}
+use lib.Dec.{ltb}
+use lib.ListN.{length, getD, set, replicate}
 use lib.Seq.{getD-set-same, getD-set-other}
 use Rattle.arena.specs.declared.WaiterId.{WaiterId}
 use Rattle.arena.specs.declared.OptWaiter.the-variants.{Nobody}
@@ -23,9 +24,9 @@ use Rattle.live.specs.Bits.{liveOf, noneLive, lowestClear, either}
 use Rattle.live.specs.Table.{held as table}
 use Rattle.live.proofs.Laws.{length-live, lowest-clear, either-clear}
 use Rattle.live.proofs.Tables.{held-free, held-open, held-none}
-use Rattle.model.specs.Table.{vacant, turn, inPlace, LAST-TURN, Table, put}
+use Rattle.model.specs.Table.{turn, inPlace, wasClosed, LAST-TURN, Table, put}
 use Rattle.model.proofs.TableLaws.{on-turn, off-turn}
-use Rattle.tables.specs.Places.{Used, placeAt, placesOf}
+use Rattle.tables.specs.Places.{Used, placesOf}
 use Rattle.tables.proofs.PlaceLaws.{both-bits, used-blank, place-vacant, places-blank}
 use Rattle.tables.proofs.WordLaws as words
 use Rattle.tables.proofs.WordLaws.{none-left, number-given, opened-used, opened-places}
@@ -47,7 +48,7 @@ use Rattle.side.specs.Meaning.{freshOp, turnOf, numberIn, carried, value
 use Rattle.side.specs.Sound.{nodeIn, nodeAt, Ties, Sound}
 use Rattle.side.specs.Calls.{Fresh, Sees, Opens, wokenOf}
 use Rattle.side.proofs.Laws.{not-empty, ties-set}
-use Rattle.side.proofs.Numbers.{stored, wiped-fresh, wiped-set, turns-set, lines-turns, wide-ops, live-small, place-at, place-holds}
+use Rattle.side.proofs.Numbers.{stored, wiped-fresh, wiped-set, turns-set, lines-turns, live-small, place-holds}
 
 -- ---- stage_of
 module _ (w : WaitList) (m : Mark) (id : WaiterId) (h : Held) (e : m ≡ At id) (g : h ≡ held w (id .0 .0)) where
@@ -138,14 +139,12 @@ fresh-side x l w z e f =
 -- ---- turn_at, at
 module _ (s : Side) (snd : Sound s) (p : ℕ) where
   pub turn-inside : p < 32 → turnOf (stored s p) ≡ turn (placeIn s p)
-  turn-inside small = by (getD (liveOf (s .live)) p false) ∙ sym (ap turn (place-at s snd p small))
-    where
-      by : (b : Bool) → turnOf (stored s p) ≡ turn (placeAt turnOf (deedBy (s .waiters)) b (stored s p))
-      by true = refl
-      by false = refl
+  unfolding sideOf
+  turn-inside = words.turn-below turnOf (deedBy (s .waiters)) freshOp 32 (omega arith) (s .live) (s .spent) (s .ops) (snd .used) p
 
   pub turn-past : 32 ≤ p → 0 ≡ turn (placeIn s p)
-  turn-past h = sym (ap turn (List·getD-eq-default (sideOf s .ops) (vacant 0) {n = p} (omega (arith, wide-ops s snd))))
+  unfolding sideOf
+  turn-past = words.turn-past turnOf (deedBy (s .waiters)) freshOp 32 (omega arith) (s .live) (s .spent) (s .ops) (snd .used) p
 
   module _ (b : Bool) (e : b ≡ getD (liveOf (s .live)) p false) where
     pub at-small : b ≡ true → p < 32
@@ -168,6 +167,10 @@ module _ (s : Side) (n k : ℕ) (e : k ≡ turn (placeIn s (n % 64))) where
 
   pub get-stale : (k ≡ n / 64 → ⊥) → Sees s n Missing
   get-stale q = sym (off-turn (n / 64) (placeIn s (n % 64)) (λ z. q (e ∙ sym z)))
+
+-- ---- closed: before the place's turn
+pub closed-before : (s : Side) (n k : ℕ) → k ≡ turn (placeIn s (n % 64)) → ltb (n / 64) k ≡ wasClosed (sideOf s .ops) n
+closed-before s n k e = ap (ltb (n / 64)) e
 
 -- ---- open
 module _ (s : Side) (snd : Sound s) (h : ℕ) (j : Cargo) (p : ℕ) (e : p ≡ lowestClear (either (liveOf (s .live)) (liveOf (s .spent)))) where

@@ -40,7 +40,7 @@ use Rattle.model.specs.Queue.{Job}
 use Rattle.model.proofs.TableLaws.{change-live, has-live, lookup-put}
 use Rattle.tables.specs.Meaning.{isLive}
 use Rattle.tables.specs.Places.{spentBy, Used, placeAt, placesOf}
-use Rattle.tables.proofs.PlaceLaws.{both-bits, turn-at, used-write, size-places}
+use Rattle.tables.proofs.PlaceLaws.{both-bits, turn-at, used-write, size-places, places-at}
 use Rattle.tables.proofs.WordLaws.{closed-used, closed-places}
 use Rattle.side.specs.declared.Mark.{Mark}
 use Rattle.side.specs.declared.Mark.the-variants.{Idle, At, Void}
@@ -54,7 +54,7 @@ use Rattle.side.specs.Sound.{nodeOf, nodeIn, nodeAt, Ties, Wiped, Sound}
 use Rattle.side.specs.Calls.{Open, Alone, Leaves, Refreshed, Detached, Detaches, Joins, Ends, Pends}
 use Rattle.side.proofs.Lists.{mem-without, without-mem, without-gone, without-none, without-map}
 use Rattle.side.proofs.Laws.{mark-at, node-waits, kept-some, kept-none, same-op, not-empty, Only, Link, tied, loose, Lined, deeds-slot, ties-slot, ties-set}
-use Rattle.side.proofs.Numbers.{stored, wiped-set, lines-same, turns-set, lines-turns, places-at, wide-ops, place-at, live-row, is-small, is-live, turn-row, the-number, deed-row, holds-row, the-deed, line-place, line-node}
+use Rattle.side.proofs.Numbers.{stored, wiped-set, lines-same, turns-set, lines-turns, wide-ops, place-at, live-row, is-small, is-live, turn-row, the-number, deed-row, holds-row, the-deed, line-place, line-node}
 
 -- ---- the wait list alone
 pub leaves : (w : WaitList) (s : wait.Sound w) (id : WaiterId) (u : WaitList) (d : Dropped) → Unlinks w (id .0 .0) u → Drops u (id .0 .0) d → Leaves w (id .0 .0) (d .list)

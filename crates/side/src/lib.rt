@@ -19,7 +19,7 @@ ghost use lib.ListN.{length};
 ghost use Rattle.waitlist.specs.Sound as wait;
 ghost use Rattle.waitlist.specs.View.{isNil, opOf};
 ghost use Rattle.model.specs.Side as model;
-ghost use Rattle.model.specs.Table.{of, sum, turn, inPlace};
+ghost use Rattle.model.specs.Table.{of, sum, turn, inPlace, wasClosed};
 ghost use Rattle.side.specs.Meaning.{valueIn, isValue, cargoBy, blankOp, freshOp, sideOf, placeIn, stageOf, stageBy, deedOf, viewed, tokenList, voided, counts};
 ghost use Rattle.side.specs.Sound.{Sound};
 ghost use Rattle.side.specs.Calls.{Open, Alone, Fresh, Sees, Leaves, Refreshed, Detaches, Joins, Opens, Ends, Pends, CallsOne, Closes, wokenOf};
@@ -412,6 +412,16 @@ impl Side {
             return self.at(place);
         }
         View::Missing
+    }
+
+    // Was a number given, and is it closed? Then its place has gone past its turn. A place past the limit was never given.
+    pub fn closed(self, n: u32) -> bool
+        requires { ⌜ Sound self ⌝ }
+        ensures { λ r. ⌜ r ≡ wasClosed (sideOf self .ops) n ⌝ }
+    {
+        let place = n % 64;
+        let turn = self.turn_at(place);
+        n / 64 < turn
     }
 
     // An operation is opened at the lowest free place with a turn left, if there is one.

@@ -6,13 +6,13 @@ use mathlib.Core.List.{List}
 use mathlib.Core.Option.{some}
 use native.Mathlib.Omega.{arith}
 use native.Mathlib.Decide.{ℕ-discrete}
-use lib.Dec.{eqb}
+use lib.Dec.{eqb, ltb}
 use lib.ListN.{length, getD, set, replicate}
 use lib.Seq.{set-getD, getD-set-same, getD-set-other}
 use Rattle.live.specs.declared.Live.{Live}
 use Rattle.live.specs.Bits.{liveOf, noneLive, lowestClear, either, countLive}
 use Rattle.live.proofs.Laws.{length-live}
-use Rattle.model.specs.Table.{LAST-TURN, vacant, inPlace, lookup, of, live, if_then_else_}
+use Rattle.model.specs.Table.{LAST-TURN, vacant, inPlace, lookup, wasClosed, of, live, if_then_else_}
 use Rattle.model.proofs.TableLaws.{same-yes, same-no}
 use Rattle.tables.specs.declared.Handle.{Handle}
 use Rattle.tables.specs.declared.Handles.{Handles}
@@ -76,6 +76,14 @@ module _ (h : Handles) (snd : HandlesSound h) where
     pub handle-not : b ≡ false → false ≡ isLive (lookup (handlesOf h) n)
     unfolding handlesOf
     handle-not = words.has-not handleTurn marked noHandle 16 few (h .live) (h .spent) (h .table) (snd .used) n b e
+
+  pub handle-past : (n : ℕ) → n % 64 < 16 → ltb (n / 64) (getD (h .table) (n % 64) noHandle .turn) ≡ wasClosed (handlesOf h) n
+  unfolding handlesOf
+  handle-past = words.closed-below handleTurn marked noHandle 16 few (h .live) (h .spent) (h .table) (snd .used)
+
+  pub handle-never : (n : ℕ) → 16 ≤ n % 64 → false ≡ wasClosed (handlesOf h) n
+  unfolding handlesOf
+  handle-never = words.closed-past handleTurn marked noHandle 16 few (h .live) (h .spent) (h .table) (snd .used)
 
   module _ (i : ℕ) (e : i ≡ lowestClear (either (liveOf (h .live)) (liveOf (h .spent)))) where
     pub handle-left : i < 16 → getD (h .table) i noHandle .turn ≤ LAST-TURN
@@ -152,6 +160,10 @@ module _ (p : Permits) (snd : PermitsSound p) where
     pub permit-not : b ≡ false → false ≡ isLive (lookup (permitsOf p) n)
     unfolding permitsOf
     permit-not = words.has-not permitTurn ownerOf noPermit 64 all (p .live) (p .spent) (p .table) (snd .used) n b e
+
+  pub permit-past : (n : ℕ) → ltb (n / 64) (getD (p .table) (n % 64) noPermit .turn) ≡ wasClosed (permitsOf p) n
+  unfolding permitsOf
+  permit-past n = words.closed-below permitTurn ownerOf noPermit 64 all (p .live) (p .spent) (p .table) (snd .used) n (omega arith)
 
   module _ (i : ℕ) (e : i ≡ lowestClear (either (liveOf (p .live)) (liveOf (p .spent)))) where
     pub permit-left : i < 64 → getD (p .table) i noPermit .turn ≤ LAST-TURN

@@ -189,6 +189,23 @@ module _ {A R : Type 0} (turnOf : A → ℕ) (recordOf : A → R) where
   size-places (b ∷ l) [] h = refl
   size-places (b ∷ l) (x ∷ xs) h = ap suc (size-places l xs (omega arith))
 
+  pub places-at : (l : List Bool) (xs : List A) (i : ℕ) (d : A) → i < length xs → length xs ≤ length l
+      → getD (placesOf turnOf recordOf l xs) i (vacant 0) ≡ placeAt turnOf recordOf (getD l i false) (getD xs i d)
+  unfolding placesOf
+  places-at l [] i d h g = absurd (omega arith)
+  places-at [] (x ∷ xs) i d h g = absurd (omega arith)
+  places-at (b ∷ l) (x ∷ xs) zero d h g = refl
+  places-at (b ∷ l) (x ∷ xs) (suc i) d h g = places-at l xs i d (omega arith) (omega arith)
+
+  -- its turn, live or not
+  pub turn-there : (l : List Bool) (xs : List A) (i : ℕ) (d : A) → i < length xs → length xs ≤ length l
+      → turn (getD (placesOf turnOf recordOf l xs) i (vacant 0)) ≡ turnOf (getD xs i d)
+  turn-there l xs i d h g = ap turn (places-at l xs i d h g) ∙ by (getD l i false)
+    where
+      by : (b : Bool) → turn (placeAt turnOf recordOf b (getD xs i d)) ≡ turnOf (getD xs i d)
+      by true = refl
+      by false = refl
+
   pub place-live : (l : List Bool) (xs : List A) (i : ℕ) (d : A) → i < length xs → getD l i false ≡ true
       → getD (placesOf turnOf recordOf l xs) i (vacant 0) ≡ holds (turnOf (getD xs i d)) (recordOf (getD xs i d))
   unfolding placesOf

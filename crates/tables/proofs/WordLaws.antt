@@ -7,16 +7,16 @@ use mathlib.Core.Option.{Option, none, some}
 use Prim.Native.Nat.{ℕ, suc, _+_, _*_, _/_, _%_, _<_, _≤_}
 use native.Mathlib.Omega.{arith}
 use native.Mathlib.Decide.{ℕ-discrete}
-use borrow.Author.Tests.{eq-eqb, ne-eqb}
-use lib.Dec.{eqb}
-use lib.ListN.{length, getD, set}
+use borrow.Author.Tests.{eq-eqb, ne-eqb, le-ltb}
+use lib.Dec.{eqb, ltb}
+use lib.ListN.{length, getD, set, List·getD-eq-default}
 use Rattle.live.specs.declared.Live.{Live}
 use Rattle.live.specs.Bits.{liveOf, lowestClear, either, countLive}
 use Rattle.live.proofs.Laws.{length-live, live-below}
-use Rattle.model.specs.Table.{LAST-TURN, vacant, inPlace, lookup, put, clear, lowest, live, size}
+use Rattle.model.specs.Table.{LAST-TURN, vacant, turn, inPlace, lookup, wasClosed, put, clear, lowest, live, size}
 use Rattle.tables.specs.Places.{spentBy, turnAt, Used, placesOf}
 use Rattle.tables.specs.Meaning.{isLive}
-use Rattle.tables.proofs.PlaceLaws.{number-place, number-turn, turn-at, used-open, used-close, size-places, place-live, place-vacant, lookup-vacant, lookup-here, lookup-stale, Stands, stands, places-put, places-clear, lowest-given, lowest-none, given-unspent, live-places}
+use Rattle.tables.proofs.PlaceLaws.{number-place, number-turn, turn-at, used-open, used-close, size-places, turn-there, place-live, place-vacant, lookup-vacant, lookup-here, lookup-stale, Stands, stands, places-put, places-clear, lowest-given, lowest-none, given-unspent, live-places}
 
 live-some : {R : Type 0} (o : Option R) → isLive o ≡ true → (a : R) × (o ≡ some a)
 live-some none e = let z : _≡_ {A = ℕ} 0 1 = cc in absurd (omega arith)
@@ -62,6 +62,22 @@ module _ {A R : Type 0} (turnOf : A → ℕ) (recordOf : A → R) (d : A) (limit
 
     pub has-not : b ≡ false → false ≡ isLive (lookup (placesOf turnOf recordOf (liveOf w) xs) n)
     has-not t = sym (ap isLive (lookup-vacant turnOf recordOf (liveOf w) xs n (sym e ∙ t)))
+
+  -- the turn of a place, live or not: below the limit, and past it
+  module _ (i : ℕ) where
+    pub turn-below : i < limit → turnOf (getD xs i d) ≡ turn (getD (placesOf turnOf recordOf (liveOf w) xs) i (vacant 0))
+    turn-below h = sym (turn-there turnOf recordOf (liveOf w) xs i d (omega (arith, u .sized)) (omega (arith, u .sized, long)))
+
+    pub turn-past : limit ≤ i → 0 ≡ turn (getD (placesOf turnOf recordOf (liveOf w) xs) i (vacant 0))
+    turn-past h = sym (ap turn (List·getD-eq-default (placesOf turnOf recordOf (liveOf w) xs) (vacant 0) {n = i} (omega (arith, wide))))
+
+  -- was a number given, and is it closed
+  module _ (n : ℕ) where
+    pub closed-below : n % 64 < limit → ltb (n / 64) (turnOf (getD xs (n % 64) d)) ≡ wasClosed (placesOf turnOf recordOf (liveOf w) xs) n
+    closed-below h = ap (ltb (n / 64)) (turn-below (n % 64) h)
+
+    pub closed-past : limit ≤ n % 64 → false ≡ wasClosed (placesOf turnOf recordOf (liveOf w) xs) n
+    closed-past h = sym (le-ltb (n / 64) 0 (omega arith)) ∙ ap (ltb (n / 64)) (turn-past (n % 64) h)
 
   -- a record opens at the place that the two words give
   module _ (i : ℕ) (e : i ≡ lowestClear (either (liveOf w) (liveOf s))) where

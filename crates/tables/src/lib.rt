@@ -9,7 +9,7 @@ ghost use mathlib.Core.Bool.{true};
 ghost use Prim.Native.Nat.{_+_, _*_, _<_, _≤_};
 ghost use lib.ListN.{getD};
 ghost use Rattle.live.specs.Bits.{liveOf};
-ghost use Rattle.model.specs.Table.{LAST-TURN, vacant, inPlace, lookup, live, of, sum};
+ghost use Rattle.model.specs.Table.{LAST-TURN, vacant, inPlace, lookup, wasClosed, live, of, sum};
 ghost use Rattle.tables.specs.Places.{spentBy};
 ghost use Rattle.tables.specs.Meaning.{handlesOf, permitsOf, isLive, noHandle, noPermit, belongs, HandlesSound, PermitsSound};
 ghost use Rattle.tables.specs.Calls.{NoHandles, NoPermits, Clones, Leaves, Gives, Drops};
@@ -111,6 +111,20 @@ impl Handles {
             let i = place as usize;
             let handle = self.table[i];
             return handle.turn == n / 64;
+        }
+        false
+    }
+
+    // Was a number given, and is it closed? Then its place has gone past its turn. A place past the limit was never given.
+    pub fn closed(self, n: u32) -> bool
+        requires { ⌜ HandlesSound self ⌝ }
+        ensures { λ r. ⌜ r ≡ wasClosed (handlesOf self) n ⌝ }
+    {
+        let place = n % 64;
+        if place < Handle::LIMIT {
+            let i = place as usize;
+            let handle = self.table[i];
+            return n / 64 < handle.turn;
         }
         false
     }
@@ -250,6 +264,17 @@ impl Permits {
             return permit.turn == n / 64;
         }
         false
+    }
+
+    // Was a number given, and is it closed? Then its place has gone past its turn.
+    pub fn closed(self, n: u32) -> bool
+        requires { ⌜ PermitsSound self ⌝ }
+        ensures { λ r. ⌜ r ≡ wasClosed (permitsOf self) n ⌝ }
+    {
+        let place = n % 64;
+        let i = place as usize;
+        let permit = self.table[i];
+        n / 64 < permit.turn
     }
 
     // A live permit goes, one more turn of its place is over, and nothing of it is left.

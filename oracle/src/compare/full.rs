@@ -44,11 +44,17 @@ fn room(make: Call) -> u32 {
 /// what follows must find nothing of them.
 fn fill_send_line(script: &mut Script, make: Call) {
     script.call(make);
+    script.call(Call::CloneS(0));
+    script.call(Call::DropS(1));
     for value in 0..=room(make) {
         script.call(Call::TrySend(0, value));
     }
     for n in 0..33 {
         script.call(if n % 3 == 1 { Call::Send(0, 500 + n) } else { Call::Reserve(0) });
+    }
+    for call in [Call::Reserve(1), Call::Send(1, 9)] {
+        script.call(call);
+        script.call_at(call, Turn::Earlier);
     }
     for n in 0..33 {
         script.call(Call::PollOut(n, 100 + n));
@@ -96,9 +102,13 @@ fn senders_wait(script: &mut Script, make: Call) -> Going {
 fn receivers_wait(script: &mut Script, make: Call) -> Going {
     let fill = |script: &mut Script| {
         script.call(make);
+        script.call(Call::CloneR(0));
+        script.call(Call::DropR(1));
         for _ in 0..33 {
             script.call(Call::Recv(0));
         }
+        script.call(Call::Recv(1));
+        script.call_at(Call::Recv(1), Turn::Earlier);
         for n in 0..33 {
             script.call(Call::PollIn(n, 100 + n));
         }
@@ -197,8 +207,10 @@ fn handles(script: &mut Script, make: Call) -> Going {
         script.call(Call::CloneS(1));
         script.call(Call::CloneR(1));
     }
-    // The handles that left are not those in their places.
+    // The handles that left are not those in their places, and that is told before a full table.
     for n in [3, 7, 0, 15] {
+        script.call_at(Call::CloneS(n), Turn::Earlier);
+        script.call_at(Call::CloneR(n), Turn::Earlier);
         script.call_at(Call::TrySend(n, 9), Turn::Earlier);
         script.call_at(Call::DropS(n), Turn::Earlier);
         script.call_at(Call::DropR(n), Turn::Earlier);
@@ -210,6 +222,7 @@ fn handles(script: &mut Script, make: Call) -> Going {
         script.call(Call::DropS(n));
         script.call(Call::DropR(n));
     }
+    script.call_at(Call::CloneS(15), Turn::Later);
     script.call(Call::CancelOut(0));
     script.call(Call::DropS(15));
     script.call(Call::PollIn(0, 51));
@@ -264,12 +277,15 @@ fn places_again(script: &mut Script, make: Call) -> Going {
         for n in 1..6 {
             script.call((life.touch)(n));
         }
-        for number in [16, 32, 63, 16 + 64, 32 + 64, 63 + 64, u32::MAX - 63, u32::MAX] {
+        for number in [16, 18, 32, 34, 63, 16 + 64, 18 + 64, 32 + 64, 63 + 64, u32::MAX - 63, u32::MAX] {
             script.call_number((life.touch)(number));
             script.call_number((life.close)(number));
         }
-        // The next queue's numbers begin anew.
+        // The next queue's numbers begin anew: those of this one were never given there.
         script.call(make);
+        for number in [1, 2, 3, 2 + 64, 4 + 64] {
+            script.call_number((life.touch)(number));
+        }
         script.call(life.open);
         script.call((life.close)(1));
         script.call_at((life.close)(1), Turn::Earlier);
@@ -327,6 +343,8 @@ fn ring_turns(script: &mut Script, make: Call) -> Going {
 fn ring_edges(script: &mut Script) -> Going {
     for taken in 0..=64 {
         script.call(Call::MakeU);
+        script.call(Call::CloneS(0));
+        script.call(Call::DropS(1));
         for value in 0..taken {
             script.call(Call::TrySend(0, 1000 + value));
             script.call(Call::TryRecv(0));
@@ -337,6 +355,8 @@ fn ring_edges(script: &mut Script) -> Going {
         script.call(Call::Status);
         // A dead sender is told before a full ring, and a place that falls free is taken once.
         script.call(Call::TrySend(1, 67));
+        script.call_at(Call::TrySend(1, 67), Turn::Earlier);
+        script.call_at(Call::Reserve(1), Turn::Earlier);
         script.call(Call::TryRecv(0));
         script.call(Call::TrySend(0, 68));
         script.call(Call::TrySend(0, 69));

@@ -68,14 +68,20 @@ poll-in 64 56
 try-recv 0
 make-u 64
 make-u
+clone-s 0
+drop-s 1
 ";
 
-/// What comes after 64 values: a full ring, the last receiver, and makes of both kinds.
+/// What comes after 64 values: a full ring, a sender that was closed and one never given, the last receiver, and makes of
+/// both kinds.
 const UNBOUNDED_FULL: &str = "\
 status
 try-send 0 65
 try-send 1 65
+try-send 65 65
 reserve 0
+reserve 1
+reserve 65
 try-recv 0
 try-send 0 66
 try-send 0 67

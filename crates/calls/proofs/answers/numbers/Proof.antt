@@ -94,6 +94,12 @@ enum-told-9 c = search needs
 none-requires-9 : tie.Need-none-requires-9
 none-requires-9 c κs = search needs
 
+enum-told-10 : tie.Need-enum-told-10
+enum-told-10 c = search needs
+
+none-requires-10 : tie.Need-none-requires-10
+none-requires-10 c κs = search needs
+
 returns : tie.Need-returns
 returns c = search says-field
 
@@ -139,6 +145,9 @@ returns-14 c = search says-field
 returns-15 : tie.Need-returns-15
 returns-15 c = search says-field
 
+returns-16 : tie.Need-returns-16
+returns-16 c = search says-field
+
 pub numbers-spec : {M : Type 1} → statement M
 numbers-spec =
     tie.close
@@ -173,6 +182,8 @@ numbers-spec =
     none-requires-8
     enum-told-9
     none-requires-9
+    enum-told-10
+    none-requires-10
     returns
     returns-2
     returns-3
@@ -187,4 +198,5 @@ numbers-spec =
     returns-12
     returns-13
     returns-14
-    returns-15)
+    returns-15
+    returns-16)

@@ -12,6 +12,9 @@ get-requires c κs = search needs
 enum-told : tie.Need-enum-told
 enum-told c = search needs
 
+dead-operation-requires : tie.Need-dead-operation-requires
+dead-operation-requires c κs = search needs
+
 enum-known-view : tie.Need-enum-known-view
 enum-known-view c = search needs
 
@@ -45,7 +48,7 @@ returns c =
     let sees = c .before .before .get .ensures in
     let says = c .say .ensures in
     ⊎-elim
-    (λ w. left-missing _ (s .pre) _ _ sees _ _ _ _ says _ (w .1 .given .1) (w .2) (w .3) (w .4) (w .5))
+    (λ w. left-missing _ (s .pre) _ _ sees _ _ _ _ says _ _ (w .1 .given .1) (w .2 .ensures) (w .3) (w .4) (w .5) (w .6))
     (⊎-elim
     (λ w. left-nobody _ (s .pre) _ _ sees _ _ _ _ says _ _ (w .1 .given .1) _ _ (w .4 .ensures) (w .6 .ensures) _ (w .7 .ensures) _ (w .8 .ensures) (w .13) (w .9 .taken) (w .15) _ (w .10 .ensures) (w .11 .taken) (w .12) (w .14))
     (⊎-elim
@@ -59,6 +62,7 @@ cancel-in-spec =
     (tie.spec
     get-requires
     enum-told
+    dead-operation-requires
     enum-known-view
     count-requires
     len-requires

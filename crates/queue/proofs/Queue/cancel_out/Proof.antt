@@ -15,6 +15,9 @@ get-requires c κs = search needs
 enum-told : tie.Need-enum-told
 enum-told c = search needs
 
+dead-operation-requires : tie.Need-dead-operation-requires
+dead-operation-requires c κs = search needs
+
 enum-known-view : tie.Need-enum-known-view
 enum-known-view c = search needs
 
@@ -55,6 +58,7 @@ cancel-out-spec =
     (tie.spec
     get-requires
     enum-told
+    dead-operation-requires
     enum-known-view
     end-requires
     is-called-requires

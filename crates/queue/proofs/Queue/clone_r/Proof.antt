@@ -8,6 +8,9 @@ use Rattle.queue.proofs.Queue.clone_r.Tie as tie
 has-requires : tie.Need-has-requires
 has-requires c κs = search needs
 
+dead-handle-requires : tie.Need-dead-handle-requires
+dead-handle-requires c κs = search needs
+
 plain-requires : tie.Need-plain-requires
 plain-requires c κs = search needs
 
@@ -40,6 +43,7 @@ clone-r-spec =
     tie.close
     (tie.spec
     has-requires
+    dead-handle-requires
     plain-requires
     returns
     open-requires

@@ -9,6 +9,9 @@ use Rattle.queue.proofs.Queue.drop_s.Tie as tie
 has-requires : tie.Need-has-requires
 has-requires c κs = search needs
 
+dead-handle-requires : tie.Need-dead-handle-requires
+dead-handle-requires c κs = search needs
+
 plain-requires : tie.Need-plain-requires
 plain-requires c κs = search needs
 
@@ -47,6 +50,7 @@ drop-s-spec =
     tie.close
     (tie.spec
     has-requires
+    dead-handle-requires
     plain-requires
     returns
     sender-busy-requires

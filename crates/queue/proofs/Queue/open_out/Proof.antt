@@ -21,6 +21,9 @@ enum-told c = search needs
 enum-known-number : tie.Need-enum-known-number
 enum-known-number c = search needs
 
+dead-handle-requires : tie.Need-dead-handle-requires
+dead-handle-requires c κs = search needs
+
 plain-requires : tie.Need-plain-requires
 plain-requires c κs = search needs
 
@@ -36,5 +39,6 @@ open-out-spec =
     open-requires
     enum-told
     enum-known-number
+    dead-handle-requires
     plain-requires
     returns)

@@ -25,6 +25,9 @@ line-is-empty-requires c κs = search needs
 call-first-requires : tie.Need-call-first-requires
 call-first-requires c κs = search needs
 
+dead-permit-requires : tie.Need-dead-permit-requires
+dead-permit-requires c κs = search needs
+
 say-requires : tie.Need-say-requires
 say-requires c κs = search needs
 
@@ -43,5 +46,6 @@ permit-send-spec =
     push-back-requires
     line-is-empty-requires
     call-first-requires
+    dead-permit-requires
     say-requires
     returns)

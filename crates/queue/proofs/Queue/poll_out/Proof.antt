@@ -20,6 +20,9 @@ outcome-of-requires c κs = search needs
 enum-told : tie.Need-enum-told
 enum-told c = search needs
 
+dead-operation-requires : tie.Need-dead-operation-requires
+dead-operation-requires c κs = search needs
+
 enum-known-outcome : tie.Need-enum-known-outcome
 enum-known-outcome c = search needs
 
@@ -73,7 +76,7 @@ returns c =
     let comes = c .before .before .outcome-of .ensures in
     let says = c .say .ensures in
     ⊎-elim
-    (λ w. polled-dead _ pre _ _ _ left _ sees _ comes _ _ _ _ says _ (w .1 .given .1) (w .2) (w .3) (w .4) (w .5))
+    (λ w. polled-dead _ pre _ _ _ left _ sees _ comes _ _ _ _ says _ _ (w .1 .given .1) (w .2 .ensures) (w .3) (w .4) (w .5) (w .6))
     (λ v2. ⊎-elim
     (λ w. polled-gone _ pre _ _ _ left _ sees _ comes _ _ _ _ says _ _ _ (w .1 .given .1) (w .3 .ensures) (w .4) (w .5) (w .6) (w .7))
     (λ v3. ⊎-elim
@@ -100,6 +103,7 @@ poll-out-spec =
     count-requires
     outcome-of-requires
     enum-told
+    dead-operation-requires
     enum-known-outcome
     end-requires
     enum-known-outcome-2

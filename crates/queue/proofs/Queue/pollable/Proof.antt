@@ -8,6 +8,9 @@ use Rattle.queue.proofs.Queue.pollable.Tie as tie
 enum-told : tie.Need-enum-told
 enum-told c = search needs
 
+dead-operation-requires : tie.Need-dead-operation-requires
+dead-operation-requires c κs = search needs
+
 enum-told-2 : tie.Need-enum-told-2
 enum-told-2 c = search needs
 
@@ -25,6 +28,7 @@ pollable-spec =
     tie.close
     (tie.spec
     enum-told
+    dead-operation-requires
     enum-told-2
     takable-requires
     returns

@@ -11,6 +11,9 @@ has-requires c κs = search needs
 takable-requires : tie.Need-takable-requires
 takable-requires c κs = search needs
 
+dead-handle-requires : tie.Need-dead-handle-requires
+dead-handle-requires c κs = search needs
+
 returns : tie.Need-returns
 returns c = search receivable-live
 
@@ -24,4 +27,5 @@ receivable-spec =
     has-requires
     takable-requires
     returns
+    dead-handle-requires
     returns-2)

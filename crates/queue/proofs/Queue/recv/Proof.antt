@@ -18,6 +18,9 @@ enum-told c = search needs
 enum-known-number : tie.Need-enum-known-number
 enum-known-number c = search needs
 
+dead-handle-requires : tie.Need-dead-handle-requires
+dead-handle-requires c κs = search needs
+
 plain-requires : tie.Need-plain-requires
 plain-requires c κs = search needs
 
@@ -30,7 +33,7 @@ returns c =
     (λ w. opened-full _ (s .pre) _ _ has _ _ says _ (w .0 .taken) _ (w .2 .ensures) (w .4 .given .1) (w .5) (w .6))
     (⊎-elim
     (λ w. opened-given _ (s .pre) _ _ has _ _ says _ (w .0 .taken) _ (w .2 .ensures) _ (w .4 .given .1) (w .7) (w .8))
-    (λ w. opened-dead _ (s .pre) _ _ has _ _ says _ (w .0 .left) (w .1) (w .2)))
+    (λ w. opened-dead _ (s .pre) _ _ has _ _ says _ _ (w .0 .left) (w .1 .ensures) (w .2) (w .3)))
     (c .before .if1 .came)
 
 pub recv-spec : {M : Type 1} → statement M
@@ -41,5 +44,6 @@ recv-spec =
     open-requires
     enum-told
     enum-known-number
+    dead-handle-requires
     plain-requires
     returns)

@@ -17,6 +17,9 @@ is-none-requires c κs = search needs
 ring-is-full-requires : tie.Need-ring-is-full-requires
 ring-is-full-requires c κs = search needs
 
+dead-handle-requires : tie.Need-dead-handle-requires
+dead-handle-requires c κs = search needs
+
 returns : tie.Need-returns
 returns c = search sends-gone
 
@@ -44,4 +47,5 @@ sendable-spec =
     ring-is-full-requires
     returns-3
     returns-4
+    dead-handle-requires
     returns-5)
