@@ -124,7 +124,7 @@ fn copy_in_and_out(size: usize) -> f64 {
 fn main() {
     let mut arguments = std::env::args().skip(1);
     let folder = PathBuf::from(arguments.next().expect("usage: bench FOLDER [--rounds LOOP POWER]"));
-    let history = History::random(20_000);
+    let history = History::random(10_000);
     if let Some("--rounds") = arguments.next().as_deref() {
         // The crate's loop alone, for a tool that counts instructions.
         let name = arguments.next().expect("a loop");

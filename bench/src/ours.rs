@@ -120,8 +120,8 @@ impl Programs {
 
     pub fn lines_a_second(&self, history: &History) {
         let list = self.folder.join("list");
-        fs::write(&list, history.text(50)).expect("the list is written");
-        let lines = (history.calls.len() + 1) * 50;
+        fs::write(&list, history.text(100)).expect("the list is written");
+        let lines = (history.calls.len() + 1) * 100;
         let mut least = Duration::MAX;
         for _ in 0..7 {
             let start = Instant::now();
