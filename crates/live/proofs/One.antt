@@ -1,4 +1,4 @@
--- Promises determine. Each promise of this crate is an equation `f r ≡ want`, in which f is the identity (has, lowest, count) or the meaning
+-- Promises determine. Each promise of this crate is an equation `f r ≡ want`, in which f is the identity (has, lowest_beside, count) or the meaning
 -- `liveOf` (fresh, with, without): any two answers that it allows have the same f. Assumes nothing.
 use mathlib.Core.Path.{_≡_, sym, _∙_}
 

@@ -2,14 +2,12 @@
 use mathlib.Core.Bool.{Bool, true, false}
 use mathlib.Core.List.{List, [], _∷_}
 use mathlib.Core.Option.{Option, none, some}
-use mathlib.Core.Path.{_≡_, refl, sym, ap}
+use mathlib.Core.Path.{_≡_, refl, ap}
 use Prim.Native.Nat.{ℕ, zero, suc, _<_, _≤_}
 use native.Mathlib.Omega.{arith}
-use lib.Arith.{le-zero}
 use lib.ListN.{length, getD, set, replicate}
-use Rattle.live.specs.Bits.{lowestClear, countLive, noneLive}
-use Rattle.live.specs.Table.{Within, shown, held, firstFree, countHeld}
-use Rattle.live.proofs.Laws.{within-tail, count-within}
+use Rattle.live.specs.Bits.{noneLive}
+use Rattle.live.specs.Table.{shown, held}
 
 module _ {A : Type 0} where
   pub length-held : (l : List Bool) (xs : List A) → length xs ≤ length l → length (held l xs) ≡ length xs
@@ -71,27 +69,3 @@ module _ {A : Type 0} where
   pub held-none : (xs : List A) → length xs ≤ 64 → held noneLive xs ≡ replicate (length xs) none
   unfolding noneLive
   held-none xs h = held-clear 64 xs h
-
-  -- the lowest free number and the count are those of the word
-  free-held : (l : List Bool) (xs : List A) → length xs ≤ length l → Within (length xs) l → firstFree (held l xs) ≡ lowestClear l
-  unfolding held firstFree lowestClear
-  free-held [] [] h w = refl
-  free-held [] (x ∷ xs) h w = refl
-  free-held (true ∷ l) [] h w = let e = w 0 (omega arith) in let z : _≡_ {A = ℕ} 0 1 = cc in absurd (omega arith)
-  free-held (false ∷ l) [] h w = refl
-  free-held (true ∷ l) (x ∷ xs) h w = ap suc (free-held l xs (omega arith) (within-tail (length xs) true l w))
-  free-held (false ∷ l) (x ∷ xs) h w = refl
-
-  number-held : (l : List Bool) (xs : List A) → length xs ≤ length l → Within (length xs) l → countHeld (held l xs) ≡ countLive l
-  unfolding held countHeld countLive
-  number-held [] xs h w = refl
-  number-held (b ∷ l) [] h w = sym (le-zero (count-within 0 (b ∷ l) w))
-  number-held (true ∷ l) (x ∷ xs) h w = ap suc (number-held l xs (omega arith) (within-tail (length xs) true l w))
-  number-held (false ∷ l) (x ∷ xs) h w = number-held l xs (omega arith) (within-tail (length xs) false l w)
-
-  module _ (limit : ℕ) (l : List Bool) (xs : List A) (sized : length xs ≡ limit) (h : limit ≤ length l) (w : Within limit l) where
-    pub firstFree-held : firstFree (held l xs) ≡ lowestClear l
-    firstFree-held = free-held l xs (omega arith) (rw sized w)
-
-    pub countHeld-held : countHeld (held l xs) ≡ countLive l
-    countHeld-held = number-held l xs (omega arith) (rw sized w)

@@ -1,7 +1,6 @@
 -- MEMORY DUMPS: after make or make-u and any calls, the ring shows the values that the definition has queued, and zero elsewhere.
 -- Assumes nothing.
-use Prim.Native.Nat.{ℕ}
-use mathlib.Core.Path.{sym, ap, subst}
+use mathlib.Core.Path.{sym, subst}
 use mathlib.Core.List.{List}
 use native.Mathlib.Omega.{arith}
 use Rattle.ring.specs.declared.Ring.{Ring}

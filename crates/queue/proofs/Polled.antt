@@ -9,7 +9,6 @@ use lib.ListN.{length}
 use Rattle.ring.specs.declared.Ring.{Ring}
 use Rattle.ring.specs.Values as ring
 use Rattle.waitlist.specs.View.{isNil}
-use Rattle.tables.specs.declared.Number.{Number}
 use Rattle.tables.specs.declared.Number.the-variants.{NoRoom as NoNumber, Given as GivenNo}
 use Rattle.tables.specs.declared.Given.{Given}
 use Rattle.tables.specs.Meaning.{handlesOf, isLive}

@@ -1,7 +1,7 @@
 -- The exits of try_send, try_res, permit_send and permit_drop, where the arms of a call meet: the queue and the answer's parts are variables
 -- there, which each arm ties to its own by an equation. Assumes nothing.
 use Prim.Native.Nat.{ℕ, _+_, _-_, _<_}
-use mathlib.Core.Path.{_≡_, refl, sym, ap, ap₂, _∙_, subst}
+use mathlib.Core.Path.{_≡_, refl, sym, ap, ap₂, _∙_}
 use mathlib.Core.Bool.{Bool, true, false, not, _&&_}
 use mathlib.Core.List.{[], _∷_, _++_}
 use mathlib.Core.Option.{Option, none, some}
@@ -256,13 +256,10 @@ module _ (q : Queue) (snd : Sound q) (s v : ℕ) (what : What) (e : what ≡ sen
 -- ---- try_res
 module _ (q : Queue) (snd : Sound q) (s : ℕ) (what : What) (e : what ≡ reserves s (queueOf q)) (b : Bool) (f : b ≡ isDone what)
     (what′ : What) (a : Answer) (u : Says what′ [] [] a) (q′ : Queue) where
-  says-so : (w : What) → what′ ≡ w → Says w [] [] a
-  says-so w y = subst (λ (z : What). Says z [] [] a) y u
-
   pub res-not : b ≡ false → q′ ≡ q → what′ ≡ what → Turned q (TryRes s) a q′
   res-not d x w =
       turned-as q (TryRes s) a q q′ x
-      (stays q (TryRes s) what a snd (says-so what w)
+      (stays q (TryRes s) what a snd (said-as what′ what Nobody Nobody NoToken NoToken a w refl refl u)
       (ap (λ (z : What). model.reply (codeOf z) (fieldOf z) [] [] (queueOf q)) e
       ∙ reserved-by s (queueOf q) false (is-decided (reserves s (queueOf q)) what e b f false d)))
 
@@ -275,7 +272,7 @@ module _ (q : Queue) (snd : Sound q) (s : ℕ) (what : What) (e : what ≡ reser
     res-given p l g j x y =
         turned-as q (TryRes s) a (withPermits (o .permits) (withFree l q)) q′ x
         (moves q (TryRes s) (WGiven p) [] [] a (withPermits (o .permits) (withFree l q)) snd
-        (shaped-permits (withFree l q) (shaped-free q (snd .shaped) l) (o .permits) (k .sound)) (says-so (WGiven p) y) refl
+        (shaped-permits (withFree l q) (shaped-free q (snd .shaped) l) (o .permits) (k .sound)) (said-as what′ (WGiven p) Nobody Nobody NoToken NoToken a y refl refl u) refl
         (ap₂ (λ (m : Table ℕ) (r : model.Room). model.reply model.GIVEN (p ∷ []) [] [] (model.setPermits m (model.setFree r (queueOf q))))
         (k .permits ∙ ap (λ (z : Number). putIf (numbered z) s (permitsOf (q .permits))) g) j
         ∙ (sym (givePermit-given s (queueOf q) (model.acquire (queueOf q)) p (sym (k .number) ∙ ap numbered g)) ∙ permitted)))
@@ -283,7 +280,7 @@ module _ (q : Queue) (snd : Sound q) (s : ℕ) (what : What) (e : what ≡ reser
     pub res-short : o .number ≡ NoNumber → q′ ≡ q → what′ ≡ NoRoom → Turned q (TryRes s) a q′
     res-short g x y =
         turned-as q (TryRes s) a q q′ x
-        (stays q (TryRes s) NoRoom a snd (says-so NoRoom y)
+        (stays q (TryRes s) NoRoom a snd (said-as what′ NoRoom Nobody Nobody NoToken NoToken a y refl refl u)
         (sym (givePermit-short s (queueOf q) (model.acquire (queueOf q)) (sym (k .number) ∙ ap numbered g)) ∙ permitted))
 
 -- ---- permit_send, permit_drop

@@ -11,7 +11,7 @@ use Rattle.ring.specs.declared.Ring.{Ring}
 use Rattle.ring.specs.Values as ring
 use Rattle.tables.specs.declared.Handles.{Handles}
 use Rattle.tables.specs.declared.Permits.{Permits}
-use Rattle.tables.specs.Meaning.{handlesOf, isLive, HandlesSound, PermitsSound}
+use Rattle.tables.specs.Meaning.{isLive, HandlesSound, PermitsSound}
 use Rattle.side.specs.declared.Side.{Side}
 use Rattle.side.specs.declared.Entry.{Entry}
 use Rattle.side.specs.declared.View.the-variants.{Found}

@@ -341,15 +341,12 @@ module _ (q : Queue) (snd : Sound q) (n : ℕ) (view : View) (sees : Sees (q .in
 
 -- ---- recv
 module _ (q : Queue) (snd : Sound q) (s : ℕ) (b : Bool) (e : b ≡ isLive (lookup (handlesOf (q .receivers)) s)) (what : What) (a : Answer) (u : Says what [] [] a) (q′ : Queue) where
-  says-so : (x : What) → what ≡ x → Says x [] [] a
-  says-so x f = subst (λ (y : What). Says y [] [] a) f u
-
   pub opened-dead : (k : What) → b ≡ false → k ≡ deadIn (handlesOf (q .receivers)) s → q′ ≡ q → what ≡ k → Turned q (Recv s) a q′
   opened-dead k d w h f = turned-as q (Recv s) a q q′ h (recv-dead q snd s b e what a (ap not d) (f ∙ w) u)
 
   module _ (d : b ≡ true) (o : Opened) (k : Opens (q .ins) s Nothing o) where
     pub opened-full : o .number ≡ NoNumber → q′ ≡ q → what ≡ NoRoom → Turned q (Recv s) a q′
-    opened-full g h f = turned-as q (Recv s) a q q′ h (recv-full q snd s b e (ap not d) o k a g (says-so NoRoom f))
+    opened-full g h f = turned-as q (Recv s) a q q′ h (recv-full q snd s b e (ap not d) o k a g (said-as what NoRoom NoOne NoOne NoToken NoToken a f refl refl u))
 
     pub opened-given : (n : ℕ) → o .number ≡ GivenNo n → q′ ≡ withIns (o .side) q → what ≡ WGiven n → Turned q (Recv s) a q′
-    opened-given n g h f = turned-as q (Recv s) a (withIns (o .side) q) q′ h (recv-given q snd s b e (ap not d) o k n a g (says-so (WGiven n) f))
+    opened-given n g h f = turned-as q (Recv s) a (withIns (o .side) q) q′ h (recv-given q snd s b e (ap not d) o k n a g (said-as what (WGiven n) NoOne NoOne NoToken NoToken a f refl refl u))

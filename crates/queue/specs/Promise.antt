@@ -1,6 +1,6 @@
 -- THE PROMISES. Every call of the queue has the promise `Turned`: the method of its name, the dispatcher, and the entry that a queue is lent
 -- to. `make` and `make_u` have `Made`. No call asks for more than `Sound`, which both makes and every call give. Assumes nothing.
-use Prim.Native.Nat.{ℕ, _≤_}
+use Prim.Native.Nat.{_≤_}
 use mathlib.Core.Path.{_≡_}
 use Rattle.model.specs.declared.Call.{Call}
 use Rattle.model.specs.Calls.{Begin, begin, step}

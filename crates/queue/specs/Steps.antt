@@ -8,8 +8,6 @@ use mathlib.Core.Option.{Option, none, some}
 use lib.Dec.{eqb, ltb}
 use lib.ListN.{length}
 use Rattle.tables.specs.declared.Handles.{Handles}
-use Rattle.tables.specs.declared.Number.{Number}
-use Rattle.tables.specs.declared.Number.the-variants.{NoRoom as NoNumber, Given as GivenNo}
 use Rattle.tables.specs.Meaning.{handlesOf, isLive}
 use Rattle.side.specs.declared.Cargo.{Cargo}
 use Rattle.side.specs.declared.Cargo.the-variants.{Nothing, Value as CValue}

@@ -197,7 +197,7 @@ impl Queue {
         }
     }
 
-    // A permit's number is always to be had where a slot is free.
+    // A slot is taken only once a number for the permit is found.
     pub fn try_res(mut self, s: u32) -> Turn
         requires { ⌜ Sound self ⌝ }
         ensures { λ r. ⌜ Turned self (TryRes s) (r .answer) (r .queue) ⌝ }
