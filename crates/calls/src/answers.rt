@@ -12,14 +12,14 @@ use queue::{Counts, Room, What};
 use side::{Cargo, OptToken};
 
 // The numbers of an answer's field: the first n of the array.
-#[derive(Drop)]
+#[derive(Clone, Copy)]
 pub struct Field {
     pub all: [u32; 6],
     pub n: usize,
 }
 
 // The token that was let go of, if any.
-#[derive(Drop)]
+#[derive(Clone, Copy)]
 pub struct Gone {
     pub all: [u32; 1],
     pub n: usize,

@@ -9,13 +9,13 @@ use lines::Line;
 use queue::{Queue, Turn};
 
 // Before the first good make there is no queue: `live` is false, and `queue` is the fixed record beside a refused make.
-#[derive(Drop)]
+#[derive(Clone, Copy)]
 pub struct Current {
     pub live: bool,
     pub queue: Queue,
 }
 
-#[derive(Drop)]
+#[derive(Clone, Copy)]
 pub struct Answered {
     pub answer: lines::Answer,
     pub current: Current,

@@ -1,4 +1,5 @@
 // The call program: standard input, one call a line, to standard output, one answer a line.
+#![tactic(auto)]
 mod answers;
 mod current;
 mod stream;
@@ -11,7 +12,7 @@ use libc::{STDIN_FILENO, STDOUT_FILENO};
 use stream::{State, begin, feed, last};
 
 // The state after a chunk, and whether its answers could be written.
-#[derive(Drop)]
+#[derive(Clone, Copy)]
 struct Drained {
     state: State,
     written: bool,

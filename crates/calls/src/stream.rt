@@ -6,7 +6,7 @@ ghost use Rattle.calls.specs.Stream.{Ready, Step, finish, seen, start};
 use crate::current::Current;
 
 // The lines answered, the first 65 bytes of the line that is being read (a line of 65 is bad already), and the current queue.
-#[derive(Drop)]
+#[derive(Clone, Copy)]
 pub struct State {
     pub count: u64,
     pub part: [u8; 65],
@@ -15,7 +15,7 @@ pub struct State {
 }
 
 // The state, how far the chunk is read, and how many bytes were put into the buffer.
-#[derive(Drop)]
+#[derive(Clone, Copy)]
 pub struct Fed {
     pub state: State,
     pub at: usize,

@@ -1,4 +1,5 @@
 // The text of the call program: a line is read, and an answer is shown.
+#![tactic(auto)]
 mod names;
 mod show;
 mod text;
@@ -7,7 +8,7 @@ pub use names::parse;
 pub use show::{Answer, print};
 
 // What a line says: nothing that can be read, a make with its capacity, a make-u, or another call with its numbers.
-#[derive(Drop)]
+#[derive(Clone, Copy)]
 pub enum Line {
     Bad,
     Make(u32),

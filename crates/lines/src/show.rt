@@ -134,7 +134,7 @@ fn put_line(
 }
 
 // An answer to be shown: a code, and three lists, each in an array with its count.
-#[derive(Drop)]
+#[derive(Clone, Copy)]
 pub struct Answer {
     pub code: u32,
     pub field: [u32; 6],

@@ -3,7 +3,7 @@ ghost use Rattle.std.specs.Prelude.{◌≡◌, ℕ, ◌<◌, ◌≤◌, length, 
 ghost use Rattle.lines.specs.Text.{space};
 ghost use Rattle.lines.specs.Text.{number as Text·number, spaces as Text·spaces};
 
-#[derive(Drop)]
+#[derive(Clone, Copy)]
 pub enum Num {
     Is(u64),
     Bad,

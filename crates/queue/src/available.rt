@@ -7,7 +7,7 @@ ghost use Rattle.queue.specs.Steps.{Small};
 use crate::Room;
 
 // A record around the case, since a queue's field can be written in place if it is a record or a number.
-#[derive(Drop)]
+#[derive(Clone, Copy)]
 pub struct Available {
     pub(crate) room: Room,
 }

@@ -2,6 +2,7 @@
 // `make` and `make_u`, a method for each call, and one dispatcher over the calls.
 // The meaning of a queue is the definition's (`queue_of`, specs/Meaning.antt), the promise of every call is `Turned` and that of both makes `Made`
 // (specs/Promise.antt); answers have document 01's numbers by specs/Answers.antt.
+#![tactic(auto)]
 mod available;
 mod dead;
 mod handles;
@@ -26,7 +27,7 @@ use wakes::Wakes;
 
 // Only the makes and the calls give a queue, and nobody else reads or writes its fields. Their order is for speed: what calls seldom touch lies
 // together and is copied in one piece.
-#[derive(Drop)]
+#[derive(Clone, Copy)]
 pub struct Queue {
     outs: Side,
     ins: Side,
@@ -39,7 +40,7 @@ pub struct Queue {
 }
 
 // A bounded queue counts its free slots; an unbounded one has no room to count.
-#[derive(Drop)]
+#[derive(Clone, Copy)]
 pub enum Room {
     Slots(u32),
     Unbounded,
@@ -47,7 +48,7 @@ pub enum Room {
 
 // What status tells, in its order: values queued, free room, live permits, operations with a grant, senders in line, and incoming operations
 // whose latest poll answered Pending.
-#[derive(Drop)]
+#[derive(Clone, Copy)]
 pub struct Counts {
     pub queued: u32,
     pub free: Room,
@@ -57,7 +58,7 @@ pub struct Counts {
     pub waiting: u32,
 }
 
-#[derive(Drop)]
+#[derive(Clone, Copy)]
 pub enum What {
     Done,
     Discarded(u32),
@@ -77,14 +78,14 @@ pub enum What {
     WrongKind,
 }
 
-#[derive(Drop)]
+#[derive(Clone, Copy)]
 pub struct Answer {
     pub what: What,
     pub wakes: Wakes,
     pub retired: OptToken,
 }
 
-#[derive(Drop)]
+#[derive(Clone, Copy)]
 pub struct Turn {
     pub answer: Answer,
     pub queue: Queue,

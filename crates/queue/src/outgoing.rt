@@ -31,7 +31,7 @@ fn is_ready(stage: Stage, free: Available) -> bool
 }
 
 // What a poll of an outgoing operation comes to. `free` is the room that is left once the operation has its slot.
-#[derive(Drop)]
+#[derive(Clone, Copy)]
 enum Outcome {
     NoHandle,
     Gone(Cargo),

@@ -3,6 +3,7 @@
 // Its meaning is the `Side` of the model (`side_of`, specs/Meaning.antt): the table of the open operations and the line by their numbers;
 // each method is the model's move or count of that name (specs/Calls.antt). What ties operations to wait nodes is `Sound` (specs/Sound.antt).
 // A number is an operation's place (0 to 31) + 64 * its turn. Callers name operations by numbers; a wait node holds the place alone, in a byte.
+#![tactic(auto)]
 ghost use Rattle.std.specs.Prelude.{◌≡◌, map, ◌<◌, eqb, length};
 ghost use Rattle.waitlist.specs.Sound as wait;
 ghost use Rattle.waitlist.specs.View.{is_nil, op_of};
@@ -19,14 +20,14 @@ use waitlist::{Held, WaitList};
 use wakes::Wakes;
 
 // What an operation carries: a send its value, a reserve and a recv nothing.
-#[derive(Drop)]
+#[derive(Clone, Copy)]
 pub enum Cargo {
     Nothing,
     Value(u32),
 }
 
 // Where an operation waits: not polled yet; in this node, in line or called; nowhere, since its line was closed for good.
-#[derive(Drop)]
+#[derive(Clone, Copy)]
 pub enum Mark {
     Idle,
     At(WaiterId),
@@ -35,7 +36,7 @@ pub enum Mark {
 
 // The record of a place: how many of its turns are over, and the operation that is open there, if one is. The owner is a handle's whole number.
 // What an operation carries stands as a value and whether there is one, not as a `Cargo`, and the numbers stand first: that keeps a record at 16 bytes.
-#[derive(Drop)]
+#[derive(Clone, Copy)]
 pub struct Op {
     value: u32,
     owner: u32,
@@ -46,7 +47,7 @@ pub struct Op {
 
 // `live` are the places with an open operation, `spent` those whose turns are used up.
 // Both ends are numbers that calls look at, the line's head and the live word, so that what lies between is copied in one piece.
-#[derive(Drop)]
+#[derive(Clone, Copy)]
 pub struct Side {
     waiters: WaitList,
     ops: [Op; 32],
@@ -55,7 +56,7 @@ pub struct Side {
 }
 
 // How far an operation is, as its caller sees it.
-#[derive(Drop)]
+#[derive(Clone, Copy)]
 pub enum Stage {
     Idle,
     Waiting(u32),
@@ -63,51 +64,51 @@ pub enum Stage {
     Void,
 }
 
-#[derive(Drop)]
+#[derive(Clone, Copy)]
 pub struct Entry {
     pub owner: u32,
     pub cargo: Cargo,
     pub stage: Stage,
 }
 
-#[derive(Drop)]
+#[derive(Clone, Copy)]
 pub enum View {
     Missing,
     Found(Entry),
 }
 
-#[derive(Drop)]
+#[derive(Clone, Copy)]
 pub enum OptToken {
     NoToken,
     Token(u32),
 }
 
 // The operation that was called, with the token to wake.
-#[derive(Drop)]
+#[derive(Clone, Copy)]
 pub enum Woken {
     Nobody,
     Op { number: u32, token: u32 },
 }
 
-#[derive(Drop)]
+#[derive(Clone, Copy)]
 pub struct Opened {
     pub number: Number,
     pub side: Side,
 }
 
-#[derive(Drop)]
+#[derive(Clone, Copy)]
 pub struct Pended {
     pub retired: OptToken,
     pub side: Side,
 }
 
-#[derive(Drop)]
+#[derive(Clone, Copy)]
 pub struct CalledOne {
     pub woken: Woken,
     pub side: Side,
 }
 
-#[derive(Drop)]
+#[derive(Clone, Copy)]
 pub struct Closed {
     pub wakes: Wakes,
     pub side: Side,
@@ -182,7 +183,7 @@ impl Stage {
 }
 
 // What the counts are of: the operations of a handle, those that are called, those that were polled.
-#[derive(Drop)]
+#[derive(Clone, Copy)]
 enum Asked {
     Owned(u32),
     Called,

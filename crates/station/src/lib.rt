@@ -2,6 +2,7 @@
 // after a refusal too. It is one thin function over `&mut`, proved by a walk (proofs/Thin.antt, and proofs/Arms.antt for its `match`); every
 // other caller takes `served`. It calls the call's own method: by way of `Queue::step` the whole record would be copied once more.
 // The promise is the queue's own, `Turned`.
+#![tactic(auto)]
 ghost use Rattle.queue.specs.Meaning.{Sound};
 ghost use Rattle.queue.specs.Promise.{Turned};
 

@@ -3,6 +3,8 @@
 // and carries its turn, live or not: how many turns of its place are over. Two words beside the array tell which places are live and which
 // are used up (specs/Places.antt). The meaning of each table is the definition's (specs/Meaning.antt), and each method is the operation of its
 // name on that (specs/Calls.antt).
+#![tactic(auto)]
+
 ghost use Rattle.std.specs.Prelude.{◌≡◌, true, ◌+◌, ◌*◌, ◌<◌, ◌≤◌, get_or};
 ghost use Rattle.live.specs.Bits.{live_of};
 ghost use Rattle.model.specs.Table.{LAST_TURN, vacant, in_place, lookup, was_closed, live, of, sum};
@@ -15,25 +17,25 @@ use live::Live;
 // The last turn of a place: its numbers are the last that fit.
 pub const LAST_TURN: u32 = 67108863;
 
-#[derive(Drop)]
+#[derive(Clone, Copy)]
 pub struct Handle {
     turn: u32,
 }
 
-#[derive(Drop)]
+#[derive(Clone, Copy)]
 pub struct Handles {
     table: [Handle; 16],
     spent: Live,
     live: Live,
 }
 
-#[derive(Drop)]
+#[derive(Clone, Copy)]
 pub struct Permit {
     owner: u32,
     turn: u32,
 }
 
-#[derive(Drop)]
+#[derive(Clone, Copy)]
 pub struct Permits {
     live: Live,
     spent: Live,
@@ -41,19 +43,19 @@ pub struct Permits {
 }
 
 // The number of a new record of any kind, if one was free.
-#[derive(Drop)]
+#[derive(Clone, Copy)]
 pub enum Number {
     NoRoom,
     Given(u32),
 }
 
-#[derive(Drop)]
+#[derive(Clone, Copy)]
 pub struct Cloned {
     pub number: Number,
     pub handles: Handles,
 }
 
-#[derive(Drop)]
+#[derive(Clone, Copy)]
 pub struct Given {
     pub number: Number,
     pub permits: Permits,

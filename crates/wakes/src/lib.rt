@@ -1,5 +1,6 @@
 // What a queue does with a line: the first waiter is called (notify_one and grant_one), or the whole line is woken as it is given up.
 // After src/mpmc/queue.rs of asyncband 0.7.4.
+#![tactic(auto)]
 ghost use Rattle.std.specs.Prelude.{◌≡◌};
 ghost use Rattle.waitlist.specs.View.{token_of};
 ghost use Rattle.waitlist.specs.Sound.{Sound};
@@ -8,7 +9,7 @@ ghost use Rattle.wakes.specs.Calls.{CallsFirst, WakesAll};
 use arena::{OptWaiter, Waiter};
 use waitlist::{Held, WaitList};
 
-#[derive(Drop)]
+#[derive(Clone, Copy)]
 pub struct CalledOut {
     pub who: OptWaiter,
     pub held: Held,
@@ -16,7 +17,7 @@ pub struct CalledOut {
 }
 
 // The tokens of the line are the first n.
-#[derive(Drop)]
+#[derive(Clone, Copy)]
 pub struct Wakes {
     pub tokens: [u32; 32],
     pub n: usize,

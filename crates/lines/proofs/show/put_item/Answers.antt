@@ -1,0 +1,10 @@
+-- `put_item` meets its contract. Assumes nothing.
+use native.Mathlib.Omega.{arith}
+use Rattle.lines.proofs.Showing.{put_both}
+use Rattle.lines.proofs.show.put_item.Goals as goal
+
+pub returns : goal.returns
+returns c =
+    let z = c.put in
+    let y = c.put_list-a in
+    (put_both y.ensures.0 z.ensures, omega (arith, y.ensures.1, z.ensures.ends))
