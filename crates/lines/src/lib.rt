@@ -1,5 +1,6 @@
 // The text of the call program: a line is read, and an answer is shown.
 #![tactic(auto)]
+
 mod names;
 mod show;
 mod text;

@@ -41,7 +41,7 @@ use Rattle.model.specs.Queue.{Job}
 use Rattle.model.proofs.TableLaws.{change_live, has_live, lookup_put}
 use Rattle.tables.specs.Meaning.{is_live}
 use Rattle.tables.specs.Places.{spent_by, Used, place_at, places_of}
-use Rattle.tables.proofs.PlaceLaws.{both_bits, turn_at, used_write, size_places, places_at}
+use Rattle.tables.proofs.PlaceLaws.{both_bits, turn_at_lem, used_write, size_places, places_at}
 use Rattle.tables.proofs.WordLaws.{closed_used, closed_places}
 use Rattle.side.specs.declared.Mark.{Mark}
 use Rattle.side.specs.declared.Mark.TheVariants.{Idle, At, Void}
@@ -135,7 +135,7 @@ module _ (s : Side) (snd : Sound s) where
     again : (x : Op) → turn_of x ≡ turn_of was → Again x (set s.ops place x)
     again x e =
         record {
-          used = used_write turn_of 32 bits (live_of s.spent) s.ops snd.used place x (e ∙ sym (turn_at turn_of s.ops place fresh_op inside));
+          used = used_write turn_of 32 bits (live_of s.spent) s.ops snd.used place x (e ∙ sym (turn_at_lem turn_of s.ops place fresh_op inside));
           wiped = wiped_set bits bits s.ops place x inside (λ k d. refl) (λ e. both_bits (get_or bits place false) (is_live_lem s snd n o) e) snd.wiped;
           tabled = held_write bits s.ops place x (is_live_lem s snd n o);
           here = get_or-set_same s.ops place x fresh_op inside;

@@ -4,6 +4,7 @@
 // each method is the model's move or count of that name (specs/Calls.antt). What ties operations to wait nodes is `Sound` (specs/Sound.antt).
 // A number is an operation's place (0 to 31) + 64 * its turn. Callers name operations by numbers; a wait node holds the place alone, in a byte.
 #![tactic(auto)]
+
 ghost use Rattle.std.specs.Prelude.{◌≡◌, map, ◌<◌, eqb, length};
 ghost use Rattle.waitlist.specs.Sound as wait;
 ghost use Rattle.waitlist.specs.View.{is_nil, op_of};

@@ -1,6 +1,7 @@
 // What a queue does with a line: the first waiter is called (notify_one and grant_one), or the whole line is woken as it is given up.
 // After src/mpmc/queue.rs of asyncband 0.7.4.
 #![tactic(auto)]
+
 ghost use Rattle.std.specs.Prelude.{◌≡◌};
 ghost use Rattle.waitlist.specs.View.{token_of};
 ghost use Rattle.waitlist.specs.Sound.{Sound};

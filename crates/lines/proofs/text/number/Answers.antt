@@ -65,13 +65,12 @@ pub loop-i-smaller : goal.loop-i-smaller
 loop-i-smaller c = omega arith
 
 pub loop-i-preserved : goal.loop-i-preserved
-loop-i-preserved c =
-    (
-      omega arith,
-      omega arith,
-      c.loop-i.invariant.2
-          ∙ rest_digit _ _ _ _ c.loop-i-test.true (digit_yes _ c.if-c-lt48.false c.if-c-gt57.false),
-    )
+loop-i-preserved c = (
+  omega arith,
+  omega arith,
+  c.loop-i.invariant.2
+      ∙ rest_digit _ _ _ _ c.loop-i-test.true (digit_yes _ c.if-c-lt48.false c.if-c-gt57.false),
+)
 
 pub returns : goal.returns
 returns c =

@@ -1,0 +1,13 @@
+-- `side::Side::at` meets its contract.
+-- Assumes nothing.
+use Rattle.side.proofs.Opens.{at_small, at_found, at_missing}
+use Rattle.side.proofs.Side.at.Goals as goal
+
+pub bounds-self-i : goal.bounds-self-i
+bounds-self-i c = search at_small
+
+pub returns-then-has : goal.returns-then-has
+returns-then-has c = search at_found
+
+pub returns : goal.returns
+returns c = search at_missing

@@ -1,0 +1,14 @@
+-- `side::Side::call_first` meets its contract. Nobody in line; the first.
+-- Assumes nothing.
+use Rattle.side.proofs.Calling.{first_small, first_turn, call_nobody, call_one}
+use borrow.Author.Rules.{rules}
+use Rattle.side.proofs.Side.call_first.Goals as goal
+
+pub number_at-number-requires : goal.number_at-number-requires
+number_at-number-requires c = search (rules, first_small, first_turn)
+
+pub returns-in-Nobody : goal.returns-in-Nobody
+returns-in-Nobody c = search call_nobody
+
+pub returns-in-Id : goal.returns-in-Id
+returns-in-Id c = search call_one

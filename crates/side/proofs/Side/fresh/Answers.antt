@@ -1,0 +1,7 @@
+-- `side::Side::fresh` meets its contract.
+-- Assumes nothing.
+use Rattle.side.proofs.Opens.{fresh_side}
+use Rattle.side.proofs.Side.fresh.Goals as goal
+
+pub returns : goal.returns
+returns c = search fresh_side
