@@ -3,6 +3,7 @@
 // The meaning of a queue is the definition's (`queue_of`, specs/Meaning.antt), the promise of every call is `Turned` and that of both makes `Made`
 // (specs/Promise.antt); answers have document 01's numbers by specs/Answers.antt.
 #![tactic(auto)]
+
 mod available;
 mod dead;
 mod handles;
