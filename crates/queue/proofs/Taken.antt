@@ -54,10 +54,6 @@ use Rattle.queue.proofs.Sending.{notify_nobody, notify_one, release_free, releas
 use Rattle.queue.proofs.Receiving.{Pops, first_value, first_nothing, recv_dead, recv_full, recv_given, leave_in_dead, leave_in_passed, leave_in_other}
 use Rattle.queue.specs.contracts.What.{the_type}
 
--- ---- no arm of a match had this answer
-none_of : (ks : List ℕ) (what x : What) → OneOf ks (tag_of the_type what) → what ≡ x → T (not (has_key ks (tag_of the_type x))) → ⊥
-none_of ks what x h e m = miss ks (tag_of the_type x) m (subst (λ (y : What). OneOf ks (tag_of the_type y)) e h)
-
 -- ---- without_first
 pub rest_of : (l : List ℕ) (p : Popped) → ring.Pops l p → ring.Holds (ring.rest l) p.next
 rest_of l p k = (k.1, k.2)
@@ -109,12 +105,8 @@ module _ (m : Queue) (sh : Shaped m) (z : live (handles_of m.receivers) ≡ 0 �
   slot_granted c y k w = release_grant m sh what t (live (handles_of m.receivers)) refl z b g c a y k (said_as what what woken c.woken t t a refl w refl u)
 
 -- ---- try_recv
--- the tags that try_recv has no arm for: all but that of Value
-abbrev untaken : List ℕ
-untaken = 0 ∷ 1 ∷ 3 ∷ 4 ∷ 5 ∷ 6 ∷ 7 ∷ 8 ∷ 9 ∷ 10 ∷ 11 ∷ 12 ∷ 13 ∷ 14 ∷ 15 ∷ []
-
 -- where it takes nothing it answers what it is told, and changes nothing
-module _ (s : ℕ) (q : model.Queue) (what : What) (t : OneOf untaken (tag_of the_type what)) where
+module _ (s : ℕ) (q : model.Queue) (what : What) (t : (v : ℕ) → what ≡ WValue v → ⊥) where
   answered : (x : What) → what ≡ x → model.reply (code_of what) (field_of what) [] [] q ≡ model.reply (code_of x) (field_of x) [] [] q
   answered x e = ap (λ (y : What). model.reply (code_of y) (field_of y) [] [] q) e
 
@@ -125,14 +117,14 @@ module _ (s : ℕ) (q : model.Queue) (what : What) (t : OneOf untaken (tag_of th
           → model.reply (code_of what) (field_of what) [] [] q ≡ try_recv s q
       taking a d [] f true h x = answered (Disconnected Nothing) x ∙ sym (try_recv_gone s q a d f h)
       taking a d [] f false h x = answered Empty x ∙ sym (try_recv_empty s q a d f h)
-      taking a d (v ∷ l) f g h x = absurd (none_of untaken what (WValue v) t x tt)
+      taking a d (v ∷ l) f g h x = absurd (t v x)
 
       by : (o : Option model.Mark) → lookup q.receivers s ≡ o → what ≡ receivable_of s o q → model.reply (code_of what) (field_of what) [] [] q ≡ try_recv s q
       by none d x = answered (dead_in q.receivers s) x ∙ (dead_replied (was_closed q.receivers s) q ∙ sym (try_recv_dead s q d))
       by (some a) d x = taking a d q.values refl (model.no_sender q) refl x
 
 module _ (q : Queue) (snd : Sound q) (s : ℕ) (what : What) (e : what ≡ receivable s (queue_of q)) (woken : Woken) (a : Answer) (u : Says what (woken_tokens woken) [] a) (q' : Queue) where
-  pub took_nothing : OneOf untaken (tag_of the_type what) → q' ≡ q → woken ≡ NoOne → Turned q (TryRecv s) a q'
+  pub took_nothing : ((v : ℕ) → what ≡ WValue v → ⊥) → q' ≡ q → woken ≡ NoOne → Turned q (TryRecv s) a q'
   unfolding step
   took_nothing t f w =
       turned_as q (TryRecv s) a q q' f
@@ -198,10 +190,6 @@ pending_told : (l : List ℕ) (gone : Bool) → Pending ≡ takable_of Pending l
 pending_told [] true e = let z : ◌≡◌ {A = ℕ} 0 1 = cc in absurd (omega arith)
 pending_told [] false e = (refl, refl)
 pending_told (x ∷ l) gone e = let z : ◌≡◌ {A = ℕ} 0 1 = cc in absurd (omega arith)
-
--- the tags that poll_in has no arm for: all but those of Value, Pending and Disconnected
-abbrev unpolled : List ℕ
-unpolled = 0 ∷ 1 ∷ 3 ∷ 5 ∷ 6 ∷ 7 ∷ 9 ∷ 10 ∷ 11 ∷ 12 ∷ 13 ∷ 14 ∷ 15 ∷ []
 
 -- ---- poll_in
 module _ (q : Queue) (snd : Sound q) (n : ℕ) (view : View) (sees : Sees q.ins n view) (what : What) (e : what ≡ pollable n (viewed view) (queue_of q)) where
@@ -288,9 +276,9 @@ module _ (q : Queue) (snd : Sound q) (n : ℕ) (view : View) (sees : Sees q.ins 
         (ap₂ (λ (l : List ℕ) (i : side.Side model.Job). model.reply model.PENDING [] [] l (model.set_ins i (queue_of q))) (x.retired op.0 op.1) (x.side op.0 op.1)
         ∙ sym (poll_in_pending n t (queue_of q) op.0 op.1 g.0 g.1)))
 
-    pub in_refused : OneOf unpolled (tag_of the_type what) → q' ≡ q → retired ≡ kept → woken ≡ NoOne → Turned q (PollIn n t) a q'
+    pub in_refused : ((v : ℕ) → what ≡ WValue v → ⊥) → ((c : Cargo) → what ≡ Disconnected c → ⊥) → (what ≡ Pending → ⊥) → q' ≡ q → retired ≡ kept → woken ≡ NoOne → Turned q (PollIn n t) a q'
     unfolding step
-    in_refused z h m w =
+    in_refused not_value not_gone not_pending h m w =
         let f = by (viewed view) e in
         turned_as q (PollIn n t) a q q' h
         (refuses q (PollIn n t) (side_of q.ins).ops n what a snd (e ∙ ap (λ (x : Option Deed). pollable n x (queue_of q)) f)
@@ -298,9 +286,9 @@ module _ (q : Queue) (snd : Sound q) (n : ℕ) (view : View) (sees : Sees q.ins 
         (poll_in_dead n t (queue_of q) (sym sees ∙ f)))
       where
         told : (l : List ℕ) (gone : Bool) → what ≡ takable_of Pending l gone → ⊥
-        told [] true x = none_of unpolled what (Disconnected Nothing) z x tt
-        told [] false x = none_of unpolled what Pending z x tt
-        told (v ∷ l) gone x = none_of unpolled what (WValue v) z x tt
+        told [] true x = not_gone Nothing x
+        told [] false x = not_pending x
+        told (v ∷ l) gone x = not_value v x
 
         by : (o : Option Deed) → what ≡ pollable n o (queue_of q) → o ≡ none
         by none x = refl

@@ -1,11 +1,11 @@
 -- `queue::Queue::poll_out` meets its contract. Its arms meet before the one exit: no such operation, no receiver, no number left for a permit,
 -- a permit, a push with nobody in line, a push that calls the first in line, and the operation that stays pending.
 -- Assumes nothing.
-use mathlib.Core.Logic.{⊎_elim}
 use Rattle.queue.proofs.Polled.{open_gone, open_permit, open_push, open_stays, room_push}
 use Rattle.queue.proofs.Polled.{polled_dead, polled_gone, polled_short, polled_permit, polled_quiet, polled_notified, polled_pending}
 use borrow.Author.Rules.{rules}
 use Rattle.queue.proofs.Queue.poll_out.Goals as goal
+use Rattle.queue.proofs.Queue.poll_out.Goals.{in-NoHandle, in-Gone, in-Permit+in-NoRoom, in-Permit+in-Given, in-Push+then-line_is_empty, in-Push+else-line_is_empty, in-Stays}
 
 pub end-self-requires : goal.end-self-requires
 end-self-requires c = search (rules, open_gone)
@@ -30,27 +30,12 @@ pend-pended-requires c = search (rules, open_stays)
 
 pub returns : goal.returns
 returns c =
-    let pre = c.requires in
-    let left = c.count-left.ensures in
-    let sees = c.get-view.ensures in
-    let comes = c.outcome_of-outcome.ensures in
-    let says = c.say-answer.ensures in
-    ⊎_elim
-    (λ w. polled_dead _ pre _ _ _ left _ sees _ comes _ _ _ _ says _ _ w.1.given.1 w.2.ensures w.3 w.4 w.5 w.6)
-    (λ v2. ⊎_elim
-    (λ w. polled_gone _ pre _ _ _ left _ sees _ comes _ _ _ _ says _ _ _ w.1.given.1 w.3.ensures w.4 w.5 w.6 w.7)
-    (λ v3. ⊎_elim
-    (λ w. polled_short _ pre _ _ _ left _ sees _ comes _ _ _ _ says _ _ _ _ w.1.given.1 w.4.ensures w.6.given.1 w.7 w.8 w.9 w.10)
-    (λ v3b. ⊎_elim
-    (λ w. polled_permit _ pre _ _ _ left _ sees _ comes _ _ _ _ says _ _ _ w.8.ensures _ _ _ w.1.given.1 w.4.ensures w.6.given.1 w.10 w.11 w.12 w.13)
-    (λ v4. ⊎_elim
-    (λ w. polled_quiet _ pre _ _ _ left _ sees _ comes _ _ _ _ says _ _ _ w.3.ensures _ w.1.given.1 _ w.5.ensures _ w.7.ensures w.8.taken w.9 w.10 w.11 w.12)
-    (λ v5. ⊎_elim
-    (λ w. polled_notified _ pre _ _ _ left _ sees _ comes _ _ _ _ says _ _ _ w.3.ensures _ w.1.given.1 _ w.5.ensures _ w.9.ensures w.11 w.12 w.13 w.14)
-    (λ w. polled_pending _ pre _ _ _ left _ sees _ comes _ _ _ _ says _ _ w.1.given.1 w.2.ensures w.4 w.5 w.6 w.7)
-    v5)
-    v4)
-    v3b)
-    v3)
-    v2)
-    c.match-outcome.branch
+    elim c.match-outcome.branch [
+      | in-NoHandle w ↦ search polled_dead
+      | in-Gone w ↦ search polled_gone
+      | in-Permit+in-NoRoom w ↦ search polled_short
+      | in-Permit+in-Given w ↦ search polled_permit
+      | in-Push+then-line_is_empty w ↦ search polled_quiet
+      | in-Push+else-line_is_empty w ↦ search polled_notified
+      | in-Stays w ↦ search polled_pending
+    ]
