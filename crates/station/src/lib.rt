@@ -3,6 +3,7 @@
 // other caller takes `served`. It calls the call's own method: by way of `Queue::step` the whole record would be copied once more.
 // The promise is the queue's own, `Turned`.
 #![tactic(auto)]
+
 ghost use Rattle.queue.specs.Meaning.{Sound};
 ghost use Rattle.queue.specs.Promise.{Turned};
 
