@@ -1,9 +1,9 @@
 -- The exits of make and make_u. Assumes nothing.
-use Prim.Native.Nat.{ℕ, ◌-◌, ◌<◌, ◌≤◌}
+use Prim.Native.Nat.{ℕ, ◌<◌, ◌≤◌}
 use mathlib.Core.Path.{◌≡◌, refl, sym, ap, ap₂, ◌∙◌}
 use mathlib.Core.Bool.{Bool, true, false, ◌&&◌}
 use mathlib.Core.List.{List, []}
-use mathlib.Core.Option.{Option, none}
+use mathlib.Core.Option.{Option}
 use native.Mathlib.Omega.{arith}
 use borrow.Author.Tests.{le-leb, lt-leb}
 use lib.Dec.{leb}
@@ -27,7 +27,7 @@ use Rattle.queue.specs.declared.Room.TheVariants.{Unbounded, Slots}
 use Rattle.queue.specs.declared.What.{What}
 use Rattle.queue.specs.declared.What.TheVariants.{Done, BadCapacity}
 use Rattle.queue.specs.declared.Answer.{Answer}
-use Rattle.queue.specs.Meaning.{room_of, queue_of, Shaped, Sound}
+use Rattle.queue.specs.Meaning.{room_of, queue_of, Shaped}
 use Rattle.queue.specs.Answers.{code_of, field_of}
 use Rattle.queue.specs.Promise.{Made}
 use Rattle.queue.specs.Steps.{Says, Blank}

@@ -1,6 +1,6 @@
 -- The exits of what senders do: moves, reserve and send, poll_out, cancel_out, permit_send, permit_drop. (try_send, try_res, and where the arms
 -- of permit_send and permit_drop meet: Sent.antt.) Assumes nothing.
-use Prim.Native.Nat.{ℕ, ◌+◌, ◌-◌, ◌<◌, ◌≤◌}
+use Prim.Native.Nat.{ℕ, ◌+◌, ◌<◌, ◌≤◌}
 use mathlib.Core.Path.{◌≡◌, refl, sym, ap, ap₂, ◌∙◌}
 use mathlib.Core.Bool.{Bool, true, false, not, ◌&&◌}
 use mathlib.Core.List.{List, [], ◌∷◌, ◌++◌}

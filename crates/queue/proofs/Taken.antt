@@ -6,10 +6,6 @@ use mathlib.Core.List.{List, [], ◌∷◌}
 use mathlib.Core.Option.{Option, none, some}
 use native.Mathlib.Omega.{arith}
 use lib.ListN.{length}
-use lib.Dec.{T}
-use mir.Val.{has_key}
-use types.Run.{OneOf, miss}
-use denote.Enum.Declared.{tag_of}
 use Rattle.ring.specs.declared.Front.TheVariants.{Value as FValue, Nothing as FNothing}
 use Rattle.ring.specs.declared.Popped.{Popped}
 use Rattle.ring.specs.declared.Ring.{Ring}
@@ -52,7 +48,6 @@ use Rattle.queue.proofs.Moves.{Notifies, Releases, releasing}
 use Rattle.queue.proofs.Settled.{not_dead, dead_replied, kept, stays, refuses, moves, does, turned_as, said_as, with_values, with_free, with_outs, with_ins, shaped_values, shaped_ins, dead, alive, none_left, some_left, found_open}
 use Rattle.queue.proofs.Sending.{notify_nobody, notify_one, release_free, release_grant, sees_found}
 use Rattle.queue.proofs.Receiving.{Pops, first_value, first_nothing, recv_dead, recv_full, recv_given, leave_in_dead, leave_in_passed, leave_in_other}
-use Rattle.queue.specs.contracts.What.{the_type}
 
 -- ---- without_first
 pub rest_of : (l : List ℕ) (p : Popped) → ring.Pops l p → ring.Holds (ring.rest l) p.next

@@ -478,7 +478,7 @@ impl Side {
     // Operation n has no node any more, in line or called.
     fn detach(self, n: u32) -> Side
         requires sound { Sound self }
-        requires fact { Open self n }
+        requires opened { Open self n }
         ensures { Detaches self n result }
     {
         let place = n % 64;
@@ -514,7 +514,7 @@ impl Side {
     // Operation n, which has no node, joins the end of the line. There is room for its node: each other node has an operation of its own.
     fn join(self, n: u32, token: u32) -> Side
         requires sound { Sound self }
-        requires fact { Open self n }
+        requires opened { Open self n }
         requires alone { Alone self n }
         ensures { Joins self n token result }
     {
@@ -547,7 +547,7 @@ impl Side {
     // Operation n ends, and leaves the line if it stands there. One more turn of its place is over, and the place is spent after its last.
     pub fn end(self, n: u32) -> Side
         requires sound { Sound self }
-        requires fact { Open self n }
+        requires opened { Open self n }
         ensures { Ends self n result }
     {
         let out = self.detach(n);
@@ -573,7 +573,7 @@ impl Side {
     // Operation n stays pending with the token: in line it keeps its place, else it joins the tail. (register of queue.rs)
     pub fn pend(self, n: u32, token: u32) -> Pended
         requires sound { Sound self }
-        requires fact { Open self n }
+        requires opened { Open self n }
         ensures { Pends self n token result }
     {
         let place = n % 64;

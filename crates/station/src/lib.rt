@@ -1,6 +1,6 @@
 // The entry for a station that keeps its queue in a record and lends it for one call at a time: the record afterwards holds the next queue,
-// after a refusal too. It is one thin function over `&mut`, proved by a walk (proofs/Thin.antt, and proofs/Arms.antt for its `match`); every
-// other caller takes `served`. It calls the call's own method: by way of `Queue::step` the whole record would be copied once more.
+// after a refusal too. It is one thin function over `&mut`; a caller with plain parameters takes `served`. It calls the call's own method: by
+// way of `Queue::step` the whole record would be copied once more.
 // The promise is the queue's own, `Turned`.
 #![tactic(auto)]
 

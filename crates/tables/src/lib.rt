@@ -177,7 +177,7 @@ impl Handles {
     // A live handle goes, and one more turn of its place is over.
     pub fn close(self, n: u32) -> Handles
         requires handles_sound { HandlesSound self }
-        requires n_value { is_live (lookup (handles_of self) n) ≡ true }
+        requires is_given { is_live (lookup (handles_of self) n) ≡ true }
         ensures { Leaves self n result }
     {
         let place = n % 64;
@@ -287,7 +287,7 @@ impl Permits {
     // A live permit goes, one more turn of its place is over, and nothing of it is left.
     pub fn close(self, n: u32) -> Permits
         requires permits_sound { PermitsSound self }
-        requires n_value { is_live (lookup (permits_of self) n) ≡ true }
+        requires is_given { is_live (lookup (permits_of self) n) ≡ true }
         ensures { Drops self n result }
     {
         let place = n % 64;

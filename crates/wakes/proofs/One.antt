@@ -3,7 +3,6 @@ use Prim.Native.Nat.{ℕ}
 use mathlib.Core.Path.{◌≡◌, refl, sym, ap, ◌∙◌}
 use mathlib.Core.List.{List, map}
 use lib.ListN.{length, take, drop}
-use Rattle.arena.specs.declared.WaiterId.{WaiterId}
 use Rattle.arena.specs.declared.OptWaiter.{OptWaiter}
 use Rattle.arena.specs.declared.OptWaiter.TheVariants.{Nobody, Id}
 use Rattle.arena.specs.declared.Waiter.TheVariants.{Called}

@@ -1,7 +1,6 @@
 -- `side::void_all` meets its contract. The invariant: the first i are voided, and the rest are as they were.
 -- Assumes nothing.
 use borrow.Author.Rules.{rules}
-use Prim.Native.Nat.{◌-◌}
 use Rattle.side.proofs.Calling.{voiding_none, voiding_size, voiding_more, voiding_done}
 use Rattle.side.proofs.void_all.Goals as goal
 

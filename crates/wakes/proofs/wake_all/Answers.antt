@@ -1,7 +1,6 @@
 -- `wakes::wake_all` meets its contract. The invariant: the tokens written and those of the line that is left are those of the whole line.
 -- Assumes nothing.
 use Rattle.wakes.proofs.Steps.{waking_none, waking_stop, waking_more, waking_full}
-use Prim.Native.Nat.{◌-◌}
 use Rattle.wakes.proofs.wake_all.Goals as goal
 
 pub loop-n-init : goal.loop-n-init

@@ -5,7 +5,7 @@ use Rattle.queue.proofs.Queue.cancel_in.Goals as goal
 use Rattle.queue.proofs.Queue.cancel_in.Goals.{in-Missing, in-Found+then-passes_on+then-line_is_empty, in-Found+then-passes_on+else-line_is_empty, in-Found+else-passes_on}
 
 pub end-rest-requires : goal.end-rest-requires
-end-rest-requires c = record { sound = c.requires.shaped.ins; fact = seen_open _ _ _ _ c.get-view.ensures c.in-Found.is }
+end-rest-requires c = record { sound = c.requires.shaped.ins; opened = seen_open _ _ _ _ c.get-view.ensures c.in-Found.is }
 
 pub returns : goal.returns
 returns c =

@@ -6,16 +6,16 @@ use Rattle.queue.proofs.Queue.poll_in.Goals as goal
 use Rattle.queue.proofs.Queue.poll_in.Goals.{in-Value+then-line_is_empty, in-Value+else-line_is_empty, in-Disconnected, in-Pending, in_default}
 
 pub end-self-requires : goal.end-self-requires
-end-self-requires c = record { sound = c.requires.shaped.ins; fact = open_value _ c.requires _ c.get-view.result c.get-view.ensures _ c.pollable-what.ensures _ c.in-Value.is }
+end-self-requires c = record { sound = c.requires.shaped.ins; opened = open_value _ c.requires _ c.get-view.result c.get-view.ensures _ c.pollable-what.ensures _ c.in-Value.is }
 
 pub more-self-requires : goal.more-self-requires
 more-self-requires c = free_small _ c.requires
 
 pub end-self-requires-in-Disconnected : goal.end-self-requires-in-Disconnected
-end-self-requires-in-Disconnected c = record { sound = c.requires.shaped.ins; fact = open_gone _ c.requires _ c.get-view.result c.get-view.ensures _ c.pollable-what.ensures _ c.in-Disconnected.is }
+end-self-requires-in-Disconnected c = record { sound = c.requires.shaped.ins; opened = open_gone _ c.requires _ c.get-view.result c.get-view.ensures _ c.pollable-what.ensures _ c.in-Disconnected.is }
 
 pub pend-pended-requires : goal.pend-pended-requires
-pend-pended-requires c = record { sound = c.requires.shaped.ins; fact = open_pending _ c.requires _ c.get-view.result c.get-view.ensures _ c.pollable-what.ensures c.in-Pending.is }
+pend-pended-requires c = record { sound = c.requires.shaped.ins; opened = open_pending _ c.requires _ c.get-view.result c.get-view.ensures _ c.pollable-what.ensures c.in-Pending.is }
 
 pub returns : goal.returns
 returns c =

@@ -1,6 +1,5 @@
 -- `side::Side::count` meets its contract.
 -- Assumes nothing.
-use Prim.Native.Nat.{◌-◌}
 use Rattle.side.proofs.Counts.{counting_none, counting_more, counting_done, counting_fits}
 use Rattle.side.proofs.Side.count.Goals as goal
 

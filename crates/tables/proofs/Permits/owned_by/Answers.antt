@@ -1,6 +1,5 @@
 -- `tables::Permits::owned_by` meets its contract.
 -- Assumes nothing.
-use Prim.Native.Nat.{◌-◌}
 use Rattle.tables.proofs.Counts.{counting_none, counting_more, counting_done, counting_fits}
 use Rattle.tables.proofs.Laws.{wide_permits, belongs_one}
 use Rattle.tables.proofs.Permits.owned_by.Goals as goal
