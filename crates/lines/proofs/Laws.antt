@@ -4,6 +4,7 @@ use mathlib.Core.Path.{◌≡◌, refl}
 use mathlib.Core.List.{List, [], ◌∷◌}
 use mathlib.Core.Bool.{Bool, true, false, cond}
 use native.Mathlib.Omega.{arith}
+use native.Mathlib.Decide.{dec_lt}
 use native.Mathlib.Numerals.{add-one}
 use lib.ListN.{length, get_or, drop, drop_of_length-le}
 use lib.Seq.{drop-cons}
@@ -66,6 +67,14 @@ unfolding number
 number_one most [] n l = absurd (n refl)
 number_one most (c ∷ []) n l = refl
 number_one most (c ∷ d ∷ w) n l = absurd (omega arith)
+
+-- the two together: what is not empty, and has no `0` before another byte, is what its bytes say
+pub number_starts : (most : ℕ) (w : List ℕ) → (length w ≡ 0 → ⊥) → (1 < length w → get_or w 0 0 ≡ 48 → ⊥) → number most w ≡ rest most 0 w
+number_starts most w n z = by (dec_lt 1 (length w))
+  where
+    by : Dec (1 < length w) → number most w ≡ rest most 0 w
+    by (yes l) = number_long most w l (z l)
+    by (no g) = number_one most w n (omega arith)
 
 -- ---- spaces
 module _ (s : List ℕ) (i : ℕ) (h : i < length s) where

@@ -14,7 +14,6 @@ use borrow.Author.Tests.{lt-leb, eq-eqb, ne_eqb, lt-ltb, le-ltb, eqb-true}
 use Rattle.lines.specs.declared.text.Num.{Num}
 use Rattle.lines.specs.declared.text.Num.TheVariants.{Is, Bad}
 use Rattle.lines.specs.declared.Line.{Line}
-use Rattle.lines.specs.declared.Line.TheVariants as Line
 use Rattle.lines.specs.Text.{space, digit, rest, leads, number, words, grow, spaces}
 use Rattle.lines.specs.Rows.{Row, no_row, row_count, row_at, table, fits, same, place, Nums, bad, nums, push, read, line, said, parsed}
 use Rattle.lines.proofs.Table.{every_at, and_left, and_right, rows, no_row_lem}

@@ -6,7 +6,6 @@ use Rattle.lines.specs.declared.text.Num.{Num}
 use Rattle.lines.specs.declared.text.Num.TheVariants.{Is, Bad}
 use Rattle.model.specs.declared.Call.TheVariants as Call
 use Rattle.lines.specs.declared.Line.{Line}
-use Rattle.lines.specs.declared.Line.TheVariants as Line
 use Rattle.lines.specs.Text.{number, words}
 
 -- the bytes of a text in ASCII

@@ -122,6 +122,7 @@ fn most_of(k: usize, i: usize) -> u64
 }
 
 // Reads a line, its LF taken off.
+#[tactic(auto, using(crate::proofs::Reading::parsed_long))]
 pub fn parse(s: &[u8]) -> Line
     ensures { result ≡ parsed s.now }
 {

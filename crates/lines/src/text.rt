@@ -10,6 +10,7 @@ pub enum Num {
 }
 
 // Reads a number in decimal without leading zeros, from 0 to `most`.
+#[tactic(auto, using(crate::proofs::Laws::number_none, crate::proofs::Laws::number_zero))]
 pub(crate) fn number(w: &[u8], most: u64) -> Num
     ensures { result ≡ Text·number most w.now }
 {

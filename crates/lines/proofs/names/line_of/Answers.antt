@@ -1,7 +1,7 @@
 -- `line_of` meets its contract: a line for each row, which computes at the row's number. A new row is three lines more. Assumes nothing.
 use native.Mathlib.Omega.{arith}
-use Rattle.lines.specs.Rows.{row_count, table}
-use Rattle.lines.proofs.Table.{out_above, no_row_lem}
+use Rattle.lines.specs.Rows.{table}
+use Rattle.lines.proofs.Table.{no_row_lem}
 use Rattle.lines.proofs.names.line_of.Goals as goal
 
 pub overflow_cast-a : goal.overflow_cast-a
@@ -91,4 +91,4 @@ unfolding table
 returns-in-19 c = rw c.in-19.is
 
 pub returns-in_default : goal.returns-in_default
-returns-in_default c = rw (no_row_lem c.args.k (out_above c.args.k row_count c.in_default.in_default-own.rest))
+returns-in_default c = rw (no_row_lem c.args.k (omega arith))

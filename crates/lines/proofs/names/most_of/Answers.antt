@@ -4,4 +4,4 @@ use Rattle.lines.proofs.Reading.{most_is}
 use Rattle.lines.proofs.names.most_of.Goals as goal
 
 pub returns : goal.returns
-returns c = sym (most_is c.args.k c.requires.0 c.args.i c.requires.1)
+returns c = sym (most_is c.args.k c.requires.k_lt_row_count c.args.i c.requires.i_in_bounds)

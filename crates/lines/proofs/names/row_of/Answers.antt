@@ -1,5 +1,4 @@
 -- `row_of` meets its contract. The loop's invariant: the place is k and the place in the rows from k on. Assumes nothing.
-use Prim.Native.Nat.{◌-◌}
 use mathlib.Core.Path.{sym, ◌∙◌}
 use native.Mathlib.Omega.{arith}
 use native.Mathlib.Nat.{zero-add}
@@ -11,18 +10,12 @@ pub loop-k-init : goal.loop-k-init
 loop-k-init c = (omega arith, sym (zero-add _))
 
 pub is_row-requires : goal.is_row-requires
-is_row-requires c = (c.names-names.ensures, omega arith)
+is_row-requires c = record { names_value = c.names-names.ensures; k_lt_row_count = omega arith }
 
 pub returns-then-is_row : goal.returns-then-is_row
 returns-then-is_row c =
     let a = c.args in
     place_hit table a.w.now a.n c.loop-k.k (omega (arith, rows)) (sym c.is_row.ensures ∙ c.if-is_row.true) c.loop-k.invariant.1
-
-pub overflow_add-k : goal.overflow_add-k
-overflow_add-k c = omega arith
-
-pub loop-k-smaller : goal.loop-k-smaller
-loop-k-smaller c = omega arith
 
 pub loop-k-preserved : goal.loop-k-preserved
 loop-k-preserved c =

@@ -1,5 +1,5 @@
 -- `put_all` meets its contract. Assumes nothing.
-use Prim.Native.Nat.{ℕ, ◌-◌, ◌+◌}
+use Prim.Native.Nat.{ℕ, ◌+◌}
 use mathlib.Core.Path.{refl, sym, ap, ◌∙◌}
 use mathlib.Core.List.{List, ◌++◌, append-nil}
 use native.Mathlib.Omega.{arith}
@@ -13,21 +13,6 @@ use Rattle.lines.proofs.show.put_all.Goals as goal
 pub loop-j-init : goal.loop-j-init
 loop-j-init c = (omega arith, refl, rw (add-zero c.args.at) (sym (append-nil _)), λ n h. refl)
 
-pub bounds-s-j : goal.bounds-s-j
-bounds-s-j c = omega arith
-
-pub overflow_add-out : goal.overflow_add-out
-overflow_add-out c = omega arith
-
-pub bounds-out-at : goal.bounds-out-at
-bounds-out-at c = omega arith
-
-pub overflow_add-j : goal.overflow_add-j
-overflow_add-j c = omega arith
-
-pub loop-j-smaller : goal.loop-j-smaller
-loop-j-smaller c = omega arith
-
 pub loop-j-preserved : goal.loop-j-preserved
 loop-j-preserved c =
     let a = c.args in
@@ -39,9 +24,6 @@ loop-j-preserved c =
           ∙ ap (λ (t : List ℕ). take a.at a.out.now ++ t) (sym (take-suc a.s.now j 0 c.loop-j-test.true) ∙ ap (λ (k : ℕ). take k a.s.now) (sym (add-one j))),
       λ n h. drop-set-lt n c.loop-j.out (a.at + j) (get_or a.s.now j 0) (omega arith) ∙ c.loop-j.invariant.3 n (omega arith),
     )
-
-pub overflow_add-result : goal.overflow_add-result
-overflow_add-result c = omega arith
 
 pub shape_of-out : goal.shape_of-out
 shape_of-out c = c.loop-j.invariant.1

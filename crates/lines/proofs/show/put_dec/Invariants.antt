@@ -1,5 +1,5 @@
 -- `put_dec` meets its contract. The loop's invariant: the number is the digits that stand from i + 1 on, behind those of `rest`. Assumes nothing.
-use Prim.Native.Nat.{◌≤◌, ◌-◌, ◌+◌}
+use Prim.Native.Nat.{◌≤◌, ◌+◌}
 use mathlib.Core.Path.{◌≡◌}
 use lib.ListN.{length, drop}
 use Rattle.lines.specs.Shown.{digits, dec}
@@ -10,5 +10,3 @@ invariant-loop-i l = (l.i ≤ 19) × (length l.text ≡ 20) × (dec l.n ≡ digi
 
 abbrev pub decreases-loop-i : goal.decreases-loop-i
 decreases-loop-i l = l.i
-
--- past the loop: the last digit goes in, and the l.text from l.i on is the number

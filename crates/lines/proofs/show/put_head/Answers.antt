@@ -11,5 +11,8 @@ returns c =
     let y = c.put_dec-c in
     let x = c.put-b in
     let w = c.put_dec-a in
-    let code : Put x.new.0 y.new.0 x.result y.result (dec s.code) = rw c.wide.ensures at y.ensures.0 in
-    (put_both w.ensures.0 (put_both x.ensures (put_both code z.ensures)), omega (arith, w.ensures.1, x.ensures.ends, y.ensures.1, z.ensures.ends))
+    let code : Put x.new.out y.new.out x.result y.result (dec s.code) = rw c.wide.ensures at y.ensures.put in
+    record {
+      put = put_both w.ensures.put (put_both x.ensures (put_both code z.ensures));
+      upper_bound = omega (arith, w.ensures.upper_bound, x.ensures.ends, y.ensures.upper_bound, z.ensures.ends);
+    }

@@ -7,4 +7,4 @@ pub returns : goal.returns
 returns c =
     let z = c.put in
     let y = c.put_list-a in
-    (put_both y.ensures.0 z.ensures, omega (arith, y.ensures.1, z.ensures.ends))
+    record { put = put_both y.ensures.put z.ensures; upper_bound = omega (arith, y.ensures.upper_bound, z.ensures.ends) }

@@ -9,4 +9,7 @@ returns c =
     let y = c.put_item-c in
     let x = c.put_field-b in
     let w = c.put_head-a in
-    (shown_put c.args.line c.args.code c.args.field.now c.args.wakes.now c.args.retired.now w.ensures.0 x.ensures.0 y.ensures.0 z.ensures.0, omega (arith, c.requires, w.ensures.1, x.ensures.1, y.ensures.1, z.ensures.1))
+    record {
+      put = shown_put c.args.line c.args.code c.args.field.now c.args.wakes.now c.args.retired.now w.ensures.put x.ensures.put y.ensures.put z.ensures.put;
+      upper_bound = omega (arith, w.ensures.upper_bound, x.ensures.upper_bound, y.ensures.upper_bound, z.ensures.upper_bound);
+    }

@@ -1,26 +1,13 @@
 -- `spaces` meets its contract. Assumes nothing.
-use Prim.Native.Nat.{◌-◌}
 use mathlib.Core.Path.{sym}
-use mathlib.Core.Logic.{⊎_elim}
 use native.Mathlib.Nat.{zero-add}
 use native.Mathlib.Omega.{arith}
 use Rattle.lines.proofs.Laws.{spaces_more, spaces_same, spaces_end}
 use Rattle.lines.proofs.text.spaces.Goals as goal
+use Rattle.lines.proofs.text.spaces.Goals.{then-s-i-eq32, else-s-i-eq32}
 
 pub loop-i-init : goal.loop-i-init
 loop-i-init c = (omega arith, omega arith, sym (zero-add _))
-
-pub bounds-s-i : goal.bounds-s-i
-bounds-s-i c = omega arith
-
-pub overflow_add-n : goal.overflow_add-n
-overflow_add-n c = omega arith
-
-pub overflow_add-i : goal.overflow_add-i
-overflow_add-i c = omega arith
-
-pub loop-i-smaller : goal.loop-i-smaller
-loop-i-smaller c = omega arith
 
 pub loop-i-preserved : goal.loop-i-preserved
 loop-i-preserved c =
@@ -28,11 +15,11 @@ loop-i-preserved c =
     let i = c.loop-i.i in
     let on = c.loop-i-test.true in (
       omega arith,
-      ⊎_elim (λ w. omega arith) (λ w. omega arith) c.if-s-i-eq32.branch,
-      ⊎_elim
-          (λ w. omega (arith, spaces_more s i on w.0.taken))
-          (λ w. omega (arith, spaces_same s i on w.0.left))
-          c.if-s-i-eq32.branch,
+      elim c.if-s-i-eq32.branch [ then-s-i-eq32 w ↦ omega arith | else-s-i-eq32 w ↦ omega arith ],
+      elim c.if-s-i-eq32.branch [
+        | then-s-i-eq32 w ↦ omega (arith, spaces_more s i on w.if-s-i-eq32.true)
+        | else-s-i-eq32 w ↦ omega (arith, spaces_same s i on w.if-s-i-eq32.false)
+      ],
     )
 
 pub returns : goal.returns

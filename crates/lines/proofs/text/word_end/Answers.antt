@@ -1,5 +1,4 @@
 -- `word_end` meets its contract: a search. Assumes nothing.
-use Prim.Native.Nat.{◌-◌}
 use borrow.Author.Count.{below_more}
 use borrow.Author.Rules.{rules}
 use Rattle.lines.proofs.text.word_end.Goals as goal
