@@ -1,8 +1,7 @@
 -- WHAT A LINE DOES (document 01, "The call program, line by line"): there is no queue yet, or the queue that the last good make began.
 -- Everything is said by the definition's `make`, `make_u` and `step`. Assumes nothing.
-use Rattle.std.specs.Prelude.{ℕ, ◌≡◌, [], true, eqb}
+use Rattle.std.specs.Prelude.{ℕ, ◌≡◌, [], true, eqb, if◌then◌else◌}
 use Rattle.std.proofs.Math.Option.{Option, none, some}
-use Rattle.model.specs.Table.{if◌then◌else◌}
 use Rattle.model.specs.Queue as model
 use Rattle.model.specs.Calls.{make, make_u, step}
 use Rattle.model.specs.declared.Call.{Call}

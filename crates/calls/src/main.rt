@@ -1,5 +1,6 @@
 // The call program: standard input, one call a line, to standard output, one answer a line.
 #![tactic(auto)]
+
 mod answers;
 mod current;
 mod stream;

@@ -1,10 +1,11 @@
 -- A RESULT BY CASES, for any statement P of it: the record is live, or its number was closed, or never given; a number is left or not.
 -- Assumes nothing.
+use Rattle.std.specs.Prelude.{if◌then◌else◌}
 use mathlib.Core.Path.{◌≡◌, refl}
 use mathlib.Core.Bool.{Bool, true, false}
 use mathlib.Core.Option.{Option, none, some}
 use Prim.Native.Nat.{ℕ}
-use Rattle.model.specs.Table.{Table, lookup, was_closed, lowest, if◌then◌else◌}
+use Rattle.model.specs.Table.{Table, lookup, was_closed, lowest}
 use Rattle.model.specs.Queue.{Queue, Result, refuse, dead, need, need_of, give, give_of, NO_HANDLE, CLOSED, NO_ROOM}
 
 module _ {A : Type 0} (P : Result → Type 0) (t : Table A) where

@@ -1,4 +1,5 @@
 -- The easy errors of document 01 are not made, on any queue that keeps the invariant. Assumes nothing.
+use Rattle.std.specs.Prelude.{if◌then◌else◌}
 use mathlib.Core.Path.{◌≡◌, refl, ap, ◌∙◌}
 use mathlib.Core.Bool.{Bool, true, false, not, ◌&&◌}
 use mathlib.Core.List.{List, [], ◌∷◌, ◌++◌}
@@ -8,7 +9,7 @@ use native.Mathlib.Omega.{arith}
 use lib.Dec.{eqb, ltb}
 use lib.ListN.{length, take, drop}
 use borrow.Author.Tests.{eq-eqb, ne_eqb, lt-ltb}
-use Rattle.model.specs.Table.{Table, lookup, clear, of, live, same, if◌then◌else◌}
+use Rattle.model.specs.Table.{Table, lookup, clear, of, live, same}
 use Rattle.model.specs.Side.{Stage, idle, waiting, called, void, Op, Side, waits, is_called, kept, kept_at, without, ended, call_first, first_token, tokens_of}
 use Rattle.model.specs.Queue.{Queue, Job, Room, slots, unbounded, Moved, Result, no_receiver, no_free, none_of, no_sender, release, release_to, set_outs, DONE}
 use Rattle.model.specs.Calls.{step}

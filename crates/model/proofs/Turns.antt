@@ -1,5 +1,6 @@
 -- A NUMBER THAT WAS CLOSED IS NEVER LIVE AGAIN: no call turns a place back. And those given are the live and the closed ones: each call adds
 -- what it answers with 2, and none else adds or forgets any. Assumes nothing.
+use Rattle.std.specs.Prelude.{if◌then◌else◌}
 use mathlib.Core.Path.{◌≡◌, refl, sym, ap, ◌∙◌}
 use mathlib.Core.Bool.{Bool, true, false, not, ◌&&◌, ◌||◌}
 use mathlib.Core.List.{List, [], ◌∷◌, ◌++◌}
@@ -11,7 +12,7 @@ use lib.Dec.{eqb, ltb, leb}
 use lib.ListN.{length, get_or, set}
 use lib.Seq.{get_or-set_same, get_or-set_other}
 use borrow.Author.Tests.{ltb-true, lt-ltb, le-ltb, eq-eqb, ne_eqb}
-use Rattle.model.specs.Table.{Place, vacant, holds, turn, in_place, LAST_TURN, Table, blank, place_of, lookup, was_closed, put, clear, change_in, change, each, lowest, of, size, if◌then◌else◌}
+use Rattle.model.specs.Table.{Place, vacant, holds, turn, in_place, LAST_TURN, Table, blank, place_of, lookup, was_closed, put, clear, change_in, change, each, lowest, of, size}
 use Rattle.model.specs.Side.{Side, idle, called, Op, waits, is_called, kept, opened, ended, pended, call_head, call_first, closed_line}
 use Rattle.model.specs.Queue.{Queue, Job, bare, carrying, Mark, Room, slots, unbounded, Result, Moved, fresh, nothing, reply, refuse, need, give, no_sender, no_receiver, no_free, is_unbounded, ring_full, sender_busy, receiver_busy, DONE, NO_HANDLE, CLOSED}
 use Rattle.model.specs.Queue.{set_values, set_senders, set_receivers, set_outs, set_ins, set_permits, acquire, release, release_to, notify, push, done_by, complete, take_first}

@@ -1,8 +1,7 @@
 -- WHICH KIND OF DEAD: a call with a number that is not live answers 26 if that number was given earlier in this history, in its kind, and 21
 -- if none gave it. proofs/Theorems.antt proves this for any beginning and any calls. Nothing is assumed.
-use Rattle.std.specs.Prelude.{◌≡◌, Bool, false, not, ◌&&◌, ◌||◌, List, [], ◌∷◌, ◌++◌, ℕ, eqb}
+use Rattle.std.specs.Prelude.{◌≡◌, Bool, false, not, ◌&&◌, ◌||◌, List, [], ◌∷◌, ◌++◌, ℕ, eqb, if◌then◌else◌}
 use Rattle.std.proofs.Math.Option.{Option, none, some}
-use Rattle.model.specs.Table.{if◌then◌else◌}
 use Rattle.model.specs.Queue.{Ans, DONE, GIVEN, NO_HANDLE, CLOSED}
 use Rattle.model.specs.Calls.{Begin, begin, step, answers, after, among}
 use Rattle.model.specs.Calls.{Call, CloneS, CloneR, TrySend, TryRes, Reserve, Send, Recv, PollOut, CancelOut}

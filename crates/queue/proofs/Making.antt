@@ -1,4 +1,5 @@
 -- The exits of make and make_u. Assumes nothing.
+use Rattle.std.specs.Prelude.{if◌then◌else◌}
 use Prim.Native.Nat.{ℕ, ◌<◌, ◌≤◌}
 use mathlib.Core.Path.{◌≡◌, refl, sym, ap, ap₂, ◌∙◌}
 use mathlib.Core.Bool.{Bool, true, false, ◌&&◌}
@@ -17,7 +18,7 @@ use Rattle.tables.specs.Calls.{put_if, NoHandles, NoPermits, Clones}
 use Rattle.side.specs.declared.Side.{Side}
 use Rattle.side.specs.Meaning.{side_of}
 use Rattle.side.specs.Calls.{Fresh}
-use Rattle.model.specs.Table.{Table, blank, put, lowest, if◌then◌else◌}
+use Rattle.model.specs.Table.{Table, blank, put, lowest}
 use Rattle.model.specs.Side as side
 use Rattle.model.specs.Queue as model
 use Rattle.model.specs.Calls.{make, make_u, Begin, by_make, by_make_u, begin, after}

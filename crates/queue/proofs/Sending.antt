@@ -1,5 +1,6 @@
 -- The exits of what senders do: moves, reserve and send, poll_out, cancel_out, permit_send, permit_drop. (try_send, try_res, and where the arms
 -- of permit_send and permit_drop meet: Sent.antt.) Assumes nothing.
+use Rattle.std.specs.Prelude.{if◌then◌else◌}
 use Prim.Native.Nat.{ℕ, ◌+◌, ◌<◌, ◌≤◌}
 use mathlib.Core.Path.{◌≡◌, refl, sym, ap, ap₂, ◌∙◌}
 use mathlib.Core.Bool.{Bool, true, false, not, ◌&&◌}
@@ -36,7 +37,7 @@ use Rattle.side.specs.declared.CalledOne.{CalledOne}
 use Rattle.side.specs.declared.Pended.{Pended}
 use Rattle.side.specs.Meaning.{Deed, side_of, carried, stage_of, deed_of, viewed, token_list, woken_tokens}
 use Rattle.side.specs.Calls.{Open, Sees, Opens, opened_if, Ends, Pends, CallsOne}
-use Rattle.model.specs.Table.{Table, lookup, clear, live, of, if◌then◌else◌}
+use Rattle.model.specs.Table.{Table, lookup, clear, live, of}
 use Rattle.model.specs.Side as side
 use Rattle.model.specs.Queue as model
 use Rattle.model.specs.declared.Call.TheVariants.{PollOut, CancelOut, PermitSend, PermitDrop}

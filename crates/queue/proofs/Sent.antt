@@ -1,5 +1,6 @@
 -- The exits of try_send, try_res, permit_send and permit_drop, where the arms of a call meet: the queue and the answer's parts are variables
 -- there, which each arm ties to its own by an equation. Assumes nothing.
+use Rattle.std.specs.Prelude.{if◌then◌else◌}
 use Prim.Native.Nat.{ℕ, ◌+◌, ◌-◌, ◌<◌}
 use mathlib.Core.Path.{◌≡◌, refl, sym, ap, ap₂, ◌∙◌}
 use mathlib.Core.Bool.{Bool, true, false, not, ◌&&◌}
@@ -26,7 +27,7 @@ use Rattle.side.specs.declared.Woken.TheVariants.{Nobody}
 use Rattle.side.specs.declared.CalledOne.{CalledOne}
 use Rattle.side.specs.Meaning.{side_of, carried, woken_tokens}
 use Rattle.side.specs.Calls.{CallsOne}
-use Rattle.model.specs.Table.{Table, lookup, was_closed, live, if◌then◌else◌}
+use Rattle.model.specs.Table.{Table, lookup, was_closed, live}
 use Rattle.model.specs.Queue as model
 use Rattle.model.specs.declared.Call.TheVariants.{TrySend, TryRes, PermitSend, PermitDrop}
 use Rattle.model.specs.Calls.{step, try_send, try_res}

@@ -1,4 +1,5 @@
 -- EVERY EXIT OF A CALL: from an answer and a queue that are the definition's, the promise. Assumes nothing.
+use Rattle.std.specs.Prelude.{if◌then◌else◌}
 use Prim.Native.Nat.{ℕ, ◌<◌, ◌≤◌}
 use mathlib.Core.Path.{◌≡◌, refl, sym, ap, ◌∙◌, subst}
 use mathlib.Core.Bool.{Bool, true, false, not}
@@ -20,7 +21,7 @@ use Rattle.side.specs.declared.Woken.{Woken}
 use Rattle.side.specs.Meaning.{Deed, side_of, deed_of, token_list, woken_tokens}
 use Rattle.side.specs.Sound as side
 use Rattle.side.specs.Calls.{Open, Sees}
-use Rattle.model.specs.Table.{Table, lookup, was_closed, live, if◌then◌else◌}
+use Rattle.model.specs.Table.{Table, lookup, was_closed, live}
 use Rattle.model.specs.Queue as model
 use Rattle.model.specs.declared.Call.{Call}
 use Rattle.model.specs.Calls.{begin, step, after}

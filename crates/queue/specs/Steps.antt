@@ -1,5 +1,5 @@
 -- THE STEPS INSIDE THE CALLS, by the definition's move of each name. Assumes nothing.
-use Rattle.std.specs.Prelude.{ℕ, ◌-◌, ◌≤◌, ◌≡◌, ◌⊎◌, Bool, true, false, not, ◌&&◌, List, [], ◌∷◌, eqb, ltb, length}
+use Rattle.std.specs.Prelude.{ℕ, ◌-◌, ◌≤◌, ◌≡◌, ◌⊎◌, Bool, true, false, not, ◌&&◌, List, [], ◌∷◌, eqb, ltb, length, if◌then◌else◌}
 use Rattle.std.proofs.Math.Option.{Option, none, some}
 use Rattle.tables.specs.declared.Handles.{Handles}
 use Rattle.tables.specs.Meaning.{handles_of, is_live}
@@ -9,7 +9,7 @@ use Rattle.side.specs.declared.Entry.{Entry}
 use Rattle.side.specs.declared.View.{View}
 use Rattle.side.specs.declared.View.TheVariants.{Missing, Found}
 use Rattle.side.specs.Meaning.{stage_of}
-use Rattle.model.specs.Table.{Table, blank, lookup, was_closed, live, if◌then◌else◌}
+use Rattle.model.specs.Table.{Table, blank, lookup, was_closed, live}
 use Rattle.model.specs.Side as side
 use Rattle.model.specs.Queue as model
 use Rattle.model.specs.declared.Call.{Call}

@@ -1,4 +1,5 @@
 -- The counts: a loop over the 32 places sums what `at` shows at each. Assumes nothing.
+use Rattle.std.specs.Prelude.{if◌then◌else◌}
 use Prim.Native.Nat.{ℕ, ◌+◌, ◌<◌, ◌≤◌}
 use mathlib.Core.Path.{◌≡◌, refl, sym, ap, ◌∙◌}
 use mathlib.Core.Bool.{Bool, true, false}
@@ -11,7 +12,7 @@ use Rattle.waitlist.proofs.Laws.{along_length, line_length}
 use Rattle.wakes.specs.declared.Wakes.{Wakes}
 use Rattle.wakes.specs.Calls.{WakesAll}
 use Rattle.tables.proofs.Counts as table
-use Rattle.model.specs.Table.{in_place, of, sum, same, if◌then◌else◌}
+use Rattle.model.specs.Table.{in_place, of, sum, same}
 use Rattle.model.specs.Side as model
 use Rattle.model.proofs.TableLaws.{same_yes, same_no}
 use Rattle.side.specs.declared.Side.{Side}

@@ -1,4 +1,5 @@
 -- What each way through the methods of handles and of permits shows: the laws of words at their two kinds of record. Assumes nothing.
+use Rattle.std.specs.Prelude.{if◌then◌else◌}
 use Prim.Native.Nat.{ℕ, zero, suc, ◌+◌, ◌*◌, ◌/◌, ◌%◌, ◌<◌, ◌≤◌}
 use mathlib.Core.Path.{◌≡◌, refl, sym, ap, ◌∙◌, subst}
 use mathlib.Core.Bool.{Bool, true, false}
@@ -12,7 +13,7 @@ use lib.Seq.{set-get_or, get_or-set_same, get_or-set_other}
 use Rattle.live.specs.declared.Live.{Live}
 use Rattle.live.specs.Bits.{live_of, none_live, lowest_clear, either, count_live}
 use Rattle.live.proofs.Laws.{length_live}
-use Rattle.model.specs.Table.{LAST_TURN, vacant, in_place, lookup, was_closed, of, live, if◌then◌else◌}
+use Rattle.model.specs.Table.{LAST_TURN, vacant, in_place, lookup, was_closed, of, live}
 use Rattle.model.proofs.TableLaws.{same_yes, same_no}
 use Rattle.tables.specs.declared.Handle.{Handle}
 use Rattle.tables.specs.declared.Handles.{Handles}

@@ -1,5 +1,6 @@
 -- THE LAWS OF AN ARRAY OF RECORDS WITH ITS TWO WORDS, by the operations of the definition's tables: lookup, put, clear, lowest, live, size, blank,
 -- each. `d` is what a read past the end of the array stands for. One law for every kind of record. Assumes nothing.
+use Rattle.std.specs.Prelude.{if◌then◌else◌}
 use mathlib.Core.Path.{◌≡◌, refl, sym, ap, ap₂, ◌∙◌, subst}
 use mathlib.Core.Bool.{Bool, true, false}
 use mathlib.Core.List.{List, [], ◌∷◌, map}
@@ -15,7 +16,7 @@ use lib.Seq.{get_or-set_same, get_or-set_other, set-get_or}
 use Rattle.live.specs.Bits.{none_live, lowest_clear, either, count_live}
 use Rattle.live.specs.Table.{Within}
 use Rattle.live.proofs.Laws.{lowest_clear_lem, either_clear, live_below, within_none, within_with, within_without, within_tail, count_within}
-use Rattle.model.specs.Table.{vacant, holds, turn, at_turn, LAST_TURN, Table, blank, lookup, put, clear, lowest, one_more, live, size, each, if◌then◌else◌}
+use Rattle.model.specs.Table.{vacant, holds, turn, at_turn, LAST_TURN, Table, blank, lookup, put, clear, lowest, one_more, live, size, each}
 use Rattle.model.proofs.TableLaws.{on_turn_lem, off_turn}
 use Rattle.tables.specs.Places.{spent_by, turn_at, Used, place_at, places_of}
 

@@ -1,9 +1,9 @@
 -- AN ARRAY OF RECORDS WITH ITS TWO WORDS. A record carries its own turn, live or not: how many turns of its place are over. The one word tells
 -- which places are live, the other which are used up. Their meaning is the definition's table, in which only a live record shows.
 -- One definition for every kind of record. Assumes nothing.
-use Rattle.std.specs.Prelude.{Bool, true, false, List, [], ◌∷◌, map, ◌≡◌, ℕ, suc, ◌≤◌, leb, length, get_or, set}
+use Rattle.std.specs.Prelude.{Bool, true, false, List, [], ◌∷◌, map, ◌≡◌, ℕ, suc, ◌≤◌, leb, length, get_or, set, if◌then◌else◌}
 use Rattle.live.specs.Table.{Within}
-use Rattle.model.specs.Table.{Place, vacant, holds, Table, LAST_TURN, if◌then◌else◌}
+use Rattle.model.specs.Table.{Place, vacant, holds, Table, LAST_TURN}
 
 -- the places that are used up, once k turns of the place i are over
 abbrev pub spent_by : List Bool → ℕ → ℕ → List Bool

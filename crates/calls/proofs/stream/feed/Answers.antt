@@ -15,8 +15,7 @@ use Rattle.calls.specs.Model.{Kept, meaning}
 use Rattle.calls.specs.Whole.{answer}
 use Rattle.calls.specs.Stream.{St, fed, text}
 use Rattle.calls.proofs.Laws.{at, fed_lf, text_lf, fed_byte, text_byte, keep_into, keep_full}
-use Rattle.calls.proofs.stream.feed.Statement.{statement}
-use Rattle.calls.proofs.stream.feed.Tie as tie
+use Rattle.calls.proofs.stream.feed.Goals as goal
 
 record Inv (chunk : List ℕ) (from : ℕ) (out₀ : List ℕ) (count₀ : ℕ) (s₀ : St) (out : List ℕ) (count : ℕ) (part : List ℕ) (len : ℕ) (current : Current) (i p : ℕ) : Type 0 where
   small : len ≤ 65
@@ -32,6 +31,7 @@ record Inv (chunk : List ℕ) (from : ℕ) (out₀ : List ℕ) (count₀ : ℕ) 
   wrote : text s₀ (drop from chunk) ≡ take p out ++ text (at count part len (meaning current)) (drop i chunk)
 
 -- a buffer with no room for a line has got one already
+
 stuck : (i from p n : ℕ) → from ≤ i → (i ≤ from → p ≡ 0) → 1024 ≤ n → n - p < 1024 → from < i
 stuck i from p n h fresh room full = by (dec_lt from i)
   where
@@ -40,20 +40,14 @@ stuck i from p n h fresh room full = by (dec_lt from i)
     by (no m) = absurd (omega (arith, fresh (omega arith)))
 
 -- the same at other names of the values
+
 moved : (chunk : List ℕ) (from : ℕ) (out₀ : List ℕ) (count₀ : ℕ) (s₀ : St) (i : ℕ) {o o' : List ℕ} {n n' : ℕ} {h h' : List ℕ} {l l' : ℕ} {q q' : Current} {p p' : ℕ}
     → o' ≡ o → n' ≡ n → h' ≡ h → l' ≡ l → q' ≡ q → p' ≡ p → Inv chunk from out₀ count₀ s₀ o n h l q i p → Inv chunk from out₀ count₀ s₀ o' n' h' l' q' i p'
 moved chunk from out₀ count₀ s₀ i eo en eh el eq ep inv = rw (eo, en, eh, el, eq, ep) inv
 
-abbrev invariant-loop : tie.invariant-loop
-invariant-loop chunk from out₀ count₀ part₀ len₀ current₀ i₀ p₀ out count part len current i p =
-    Inv chunk from out₀ count₀ (at count₀ part₀ len₀ (meaning current₀)) out count part len current i p
-
-abbrev decreases-loop : tie.decreases-loop
-decreases-loop chunk from out₀ count₀ part₀ len₀ current₀ i₀ p₀ out count part len current i p = length chunk - i
-
-loop-holds : tie.Need-loop-init invariant-loop decreases-loop
-loop-holds c =
-    let pre = c.before.before.before.before.requires in
+pub loop-i-init : goal.loop-i-init
+loop-i-init c =
+    let pre = c.requires in
     record {
       small = pre.0.small;
       kept = pre.0.kept;
@@ -68,60 +62,60 @@ loop-holds c =
       wrote = refl;
     }
 
-shared-slice-read-b : tie.Need-shared-slice-read-b invariant-loop decreases-loop
-shared-slice-read-b c =
+pub bounds-chunk-i : goal.bounds-chunk-i
+bounds-chunk-i c =
     omega arith
 
-sub-if2 : tie.Need-overflow-sub-if2 invariant-loop decreases-loop
-sub-if2 c =
+pub overflow_sub-out : goal.overflow_sub-out
+overflow_sub-out c =
     omega arith
 
-add-count : tie.Need-overflow-add-count invariant-loop decreases-loop
-add-count c =
+pub overflow_add-count : goal.overflow_add-count
+overflow_add-count c =
     omega arith
 
-array-share-prefix-part : tie.Need-array-share-prefix-part invariant-loop decreases-loop
-array-share-prefix-part c =
+pub slice_bounds-part-end : goal.slice_bounds-part-end
+slice_bounds-part-end c =
     omega arith
 
-slice-aggregate-parse : tie.Need-slice-aggregate-parse invariant-loop decreases-loop
-slice-aggregate-parse c =
+pub slice_bounds-parse-end : goal.slice_bounds-parse-end
+slice_bounds-parse-end c =
     sym (length-take-le _ _ (omega arith))
 
-parse-requires : tie.Need-parse-requires invariant-loop decreases-loop
-parse-requires c κs = tt
+pub parse-line-requires : goal.parse-line-requires
+parse-line-requires c = tt
 
-answer-requires : tie.Need-answer-requires invariant-loop decreases-loop
-answer-requires c κs =
-    c.before.before.before.before.before.before.loop.invariant.kept
+pub answer-answered-requires : goal.answer-answered-requires
+answer-answered-requires c =
+    c.loop-i.invariant.kept
 
-print-requires : tie.Need-print-requires invariant-loop decreases-loop
-print-requires c κs =
-    (omega arith, c.before.before.before.answer.ensures.counted)
+pub print-p-requires : goal.print-p-requires
+print-p-requires c =
+    (omega arith, c.answer-answered.ensures.counted)
 
-array-write-part : tie.Need-array-write-part invariant-loop decreases-loop
-array-write-part c =
+pub bounds-part-len : goal.bounds-part-len
+bounds-part-len c =
     omega arith
 
-add-len : tie.Need-overflow-add-len invariant-loop decreases-loop
-add-len c =
+pub overflow_add-len : goal.overflow_add-len
+overflow_add-len c =
     omega arith
 
-add-i : tie.Need-overflow-add-i invariant-loop decreases-loop
-add-i c =
+pub overflow_add-i : goal.overflow_add-i
+overflow_add-i c =
     omega arith
 
-loop-less : tie.Need-loop-smaller invariant-loop decreases-loop
-loop-less c =
+pub loop-i-smaller : goal.loop-i-smaller
+loop-i-smaller c =
     omega arith
 
-loop-again : tie.Need-loop-preserved invariant-loop decreases-loop
-loop-again c =
-    let l = c.before.before.before.loop in
-    let s = c.before.before.before.before.before.before.before.before.args in
+pub loop-i-preserved : goal.loop-i-preserved
+loop-i-preserved c =
+    let l = c.loop-i in
+    let s = c.args in
     let s₀ = at s.st.count s.st.part s.st.len (meaning s.st.current) in
     let chunk = s.chunk.now in
-    let on = c.before.before.loop-test.true in
+    let on = c.loop-i-test.true in
     let v = l.invariant in
     let m = meaning l.current in
     ⊎_elim
@@ -181,15 +175,15 @@ loop-again c =
       state = v.state ∙ fed_byte chunk l.i l.count l.part l.len m on l.part l.len kept w.0.left;
       wrote = v.wrote ∙ ap (λ (t : List ℕ). take l.p l.out ++ t) (text_byte chunk l.i l.count l.part l.len m on l.part l.len kept w.0.left);
     })))
-    c.if1.branch
+    c.if-b-eq10.branch
 
-same_length : tie.Need-same-length invariant-loop decreases-loop
-same_length c =
-    c.before.loop.invariant.long
+pub shape_of-out-after-loop-i : goal.shape_of-out-after-loop-i
+shape_of-out-after-loop-i c =
+    c.loop-i.invariant.long
 
-returns : tie.Need-returns invariant-loop decreases-loop
-returns c =
-    let l = c.before.loop in
+pub returns-after-loop-i : goal.returns-after-loop-i
+returns-after-loop-i c =
+    let l = c.loop-i in
     record {
       ready = record { small = l.invariant.small; kept = l.invariant.kept };
       within = l.invariant.within;
@@ -200,45 +194,19 @@ returns c =
       wrote = l.invariant.wrote;
     }
 
-same-length-2 : tie.Need-same-length-2 invariant-loop decreases-loop
-same-length-2 c =
-    c.before.before.before.before.loop.invariant.long
+pub shape_of-out-then-out-p-lt1024 : goal.shape_of-out-then-out-p-lt1024
+shape_of-out-then-out-p-lt1024 c =
+    c.loop-i.invariant.long
 
-returns-2 : tie.Need-returns-2 invariant-loop decreases-loop
-returns-2 c =
-    let l = c.before.before.before.before.loop in
-    let s = c.before.before.before.before.before.before.before.before.before in
+pub returns-then-out-p-lt1024 : goal.returns-then-out-p-lt1024
+returns-then-out-p-lt1024 c =
+    let l = c.loop-i in
     record {
       ready = record { small = l.invariant.small; kept = l.invariant.kept };
       within = l.invariant.within;
-      onward = λ h. stuck l.i s.args.from l.p (length l.out) l.invariant.onward l.invariant.fresh (omega (arith, l.invariant.long, s.requires)) c.if2.true;
+      onward = λ h. stuck l.i c.args.from l.p (length l.out) l.invariant.onward l.invariant.fresh (omega (arith, l.invariant.long, c.requires)) c.if-out-p-lt1024.true;
       room = l.invariant.room;
       lines = l.invariant.lines;
       state = l.invariant.state;
       wrote = l.invariant.wrote;
     }
-
-pub feed-spec : {M : Type 1} → statement M
-feed-spec =
-    tie.close
-    (tie.spec
-    invariant-loop
-    decreases-loop
-    loop-holds
-    shared-slice-read-b
-    sub-if2
-    add-count
-    array-share-prefix-part
-    slice-aggregate-parse
-    parse-requires
-    answer-requires
-    print-requires
-    array-write-part
-    add-len
-    add-i
-    loop-less
-    loop-again
-    same_length
-    returns
-    same-length-2
-    returns-2)
