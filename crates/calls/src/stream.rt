@@ -87,8 +87,8 @@ pub(crate) fn last(st: State, out: &mut [u8]) -> usize
     requires ready { Ready st }
     requires in_bounds { 1024 ≤ length out.old }
     requires count_bound { st.count + 1 < 2 ^ 64 }
-    ensures prefix_len { IsPrefixLen result out.new }
-    ensures out_after { take result out.new ≡ finish (seen st) }
+    ensures within { IsPrefixLen result out.new }
+    ensures wrote { take result out.new ≡ finish (seen st) }
 {
     let len = st.len;
     if len == 0 {
