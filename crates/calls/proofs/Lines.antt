@@ -13,7 +13,6 @@ use Rattle.queue.specs.Answers.{code_of, ans_of}
 use Rattle.queue.specs.Promise.{Made, Turned}
 use Rattle.model.specs.Calls.{make, make_u, by_make, by_make_u}
 use Rattle.lines.specs.declared.Line.{Line}
-use Rattle.lines.specs.declared.Line.TheVariants as Line
 use Rattle.lines.specs.declared.show.Answer.{Answer}
 use Rattle.lines.specs.Shown.{told, Counted}
 use Rattle.calls.specs.declared.current.Current.{Current}

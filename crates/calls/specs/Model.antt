@@ -6,7 +6,6 @@ use Rattle.model.specs.Queue as model
 use Rattle.model.specs.Calls.{make, make_u, step}
 use Rattle.model.specs.declared.Call.{Call}
 use Rattle.lines.specs.declared.Line.{Line}
-use Rattle.lines.specs.declared.Line.TheVariants as Line
 use Rattle.lines.specs.Shown.{answered, told, Counted}
 use Rattle.queue.specs.declared.Turn.{Turn}
 use Rattle.queue.specs.Meaning.{queue_of, Sound}

@@ -54,16 +54,16 @@ pub rest_of : (l : List ℕ) (p : Popped) → ring.Pops l p → ring.Holds (ring
 rest_of l p k = (k.1, k.2)
 
 -- ---- takable
-module _ (q : Queue) (empty : What) (p : Popped) (k : Pops q p) where
-  pub takable_value : (v : ℕ) → p.front ≡ FValue v → WValue v ≡ takable empty (queue_of q)
-  takable_value v f = sym (ap (λ (l : List ℕ). takable_of empty l (model.no_sender (queue_of q))) (first_value _ v (sym f ∙ k.0)))
+module _ (q : Queue) (untold : What) (p : Popped) (k : Pops q p) where
+  pub takable_value : (v : ℕ) → p.front ≡ FValue v → WValue v ≡ takable untold (queue_of q)
+  takable_value v f = sym (ap (λ (l : List ℕ). takable_of untold l (model.no_sender (queue_of q))) (first_value _ v (sym f ∙ k.0)))
 
   module _ (f : p.front ≡ FNothing) (n : ℕ) (g : n ≡ live (handles_of q.senders)) where
-    pub takable_gone : n ≡ 0 → Disconnected Nothing ≡ takable empty (queue_of q)
-    takable_gone z = sym (ap₂ (λ (l : List ℕ) (b : Bool). takable_of empty l b) (first_nothing _ (sym f ∙ k.0)) (none_left (handles_of q.senders) n g z))
+    pub takable_gone : n ≡ 0 → Disconnected Nothing ≡ takable untold (queue_of q)
+    takable_gone z = sym (ap₂ (λ (l : List ℕ) (b : Bool). takable_of untold l b) (first_nothing _ (sym f ∙ k.0)) (none_left (handles_of q.senders) n g z))
 
-    pub takable_empty : (n ≡ 0 → ⊥) → empty ≡ takable empty (queue_of q)
-    takable_empty z = sym (ap₂ (λ (l : List ℕ) (b : Bool). takable_of empty l b) (first_nothing _ (sym f ∙ k.0)) (some_left (handles_of q.senders) n g z))
+    pub takable_empty : (n ≡ 0 → ⊥) → untold ≡ takable untold (queue_of q)
+    takable_empty z = sym (ap₂ (λ (l : List ℕ) (b : Bool). takable_of untold l b) (first_nothing _ (sym f ∙ k.0)) (some_left (handles_of q.senders) n g z))
 
 -- ---- receivable
 module _ (q : Queue) (s : ℕ) (b : Bool) (e : b ≡ is_live (lookup (handles_of q.receivers) s)) where
@@ -77,11 +77,11 @@ module _ (q : Queue) (s : ℕ) (b : Bool) (e : b ≡ is_live (lookup (handles_of
   receivable_live what d f = let l = alive _ b e (ap not d) in f ∙ sym (by_receiver (some l.0) l.1)
 
 -- ---- a value that is told is the first, and a receiver is left
-value_told : (empty : What) (l : List ℕ) (gone : Bool) (v : ℕ) → (empty ≡ WValue v → ⊥) → WValue v ≡ takable_of empty l gone → l ≡ v ∷ ring.rest l
+value_told : (untold : What) (l : List ℕ) (gone : Bool) (v : ℕ) → (untold ≡ WValue v → ⊥) → WValue v ≡ takable_of untold l gone → l ≡ v ∷ ring.rest l
 unfolding ring.rest
-value_told empty [] true v n e = let z : ◌≡◌ {A = ℕ} 0 1 = cc in absurd (omega arith)
-value_told empty [] false v n e = absurd (n (sym e))
-value_told empty (x ∷ l) gone v n e = let z : v ≡ x = cc in ap (λ (y : ℕ). y ∷ l) (sym z)
+value_told untold [] true v n e = let z : ◌≡◌ {A = ℕ} 0 1 = cc in absurd (omega arith)
+value_told untold [] false v n e = absurd (n (sym e))
+value_told untold (x ∷ l) gone v n e = let z : v ≡ x = cc in ap (λ (y : ℕ). y ∷ l) (sym z)
 
 value_live : (s : ℕ) (o : Option model.Mark) (q : model.Queue) (v : ℕ) → WValue v ≡ receivable_of s o q → (a : model.Mark) × (o ≡ some a) × (WValue v ≡ takable Empty q)
 value_live s none q v e = absurd (not_dead (was_closed q.receivers s) (WValue v) (omega arith) e)

@@ -60,13 +60,13 @@ abbrev pub dead_in : {A : Type 0} → Table A → ℕ → What
 dead_in t n = dead_by (was_closed t n)
 
 -- ---- what receivers are told
--- of these values, where the senders are gone or not: the first; or that none will ever come; else the answer given as `empty`
+-- of these values, where the senders are gone or not: the first; or that none will ever come; else the answer given as `untold`
 abbrev pub takable_of : What → List ℕ → Bool → What
-takable_of empty [] gone = if gone then Disconnected Nothing else empty
-takable_of empty (v ∷ l) gone = WValue v
+takable_of untold [] gone = if gone then Disconnected Nothing else untold
+takable_of untold (v ∷ l) gone = WValue v
 
 abbrev pub takable : What → model.Queue → What
-takable empty q = takable_of empty q.values (model.no_sender q)
+takable untold q = takable_of untold q.values (model.no_sender q)
 
 -- a try-recv by a receiver, which is live or not
 abbrev pub receivable_of : ℕ → Option model.Mark → model.Queue → What

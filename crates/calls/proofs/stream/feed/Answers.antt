@@ -1,18 +1,15 @@
 -- `feed` meets its contract. The loop's invariant: what is put, and what the rest of the chunk will put, is what the chunk puts. Assumes nothing.
-use Prim.Native.Nat.{ℕ, ◌≤◌, ◌<◌, ◌-◌, ◌+◌}
-use mathlib.Core.Path.{◌≡◌, refl, sym, ap, ◌∙◌}
+use Prim.Native.Nat.{ℕ, ◌+◌}
+use mathlib.Core.Path.{◌≡◌, sym, ap, ◌∙◌}
 use mathlib.Core.List.{List, ◌++◌, append_assoc}
 use native.Mathlib.Omega.{arith}
-use native.Mathlib.Decide.{dec_lt}
-use borrow.Author.Rules.{rules}
-use lib.ListN.{length, get_or, drop, take, set, length-set}
-use lib.Seq.{length-take-le}
+use lib.ListN.{get_or, drop, take, set, length-set}
 use Rattle.lines.specs.Shown.{shown}
 use Rattle.model.specs.Queue.{Ans}
 use Rattle.calls.specs.declared.current.Current.{Current}
-use Rattle.calls.specs.Model.{Kept, meaning}
+use Rattle.calls.specs.Model.{meaning}
 use Rattle.calls.specs.Whole.{answer}
-use Rattle.calls.specs.Stream.{St, fed, text}
+use Rattle.calls.specs.Stream.{St, text}
 use Rattle.calls.proofs.Laws.{at, fed_lf, text_lf, fed_byte, text_byte, keep_into, keep_full}
 use Rattle.calls.proofs.stream.feed.Invariants.{Inv}
 use Rattle.calls.proofs.stream.feed.Goals as goal
