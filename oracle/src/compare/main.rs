@@ -27,7 +27,7 @@ use walks::Kinds;
 
 const USAGE: &str = "\
 usage: compare [--program PATH] [--lines N] [--seed S] [--short]
-           compares PATH (target/bin/calls) with the crate: the short lists, or all lists and then random
+           compares PATH (crates/calls/out/calls) with the crate: the short lists, or all lists and then random
            walks until N lines were compared (160000000)
        compare --slips [NAME]
            builds a copy of the oracle with each planted slip and looks whether the short lists see it

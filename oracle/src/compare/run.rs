@@ -257,7 +257,7 @@ pub fn stored_pairs(directory: &Path) -> io::Result<Vec<(PathBuf, PathBuf)>> {
 }
 
 pub fn run(options: &Options) -> io::Result<bool> {
-    let program = options.program.clone().unwrap_or_else(|| options.root.join("target/bin/calls"));
+    let program = options.program.clone().unwrap_or_else(|| options.root.join("crates/calls/out/calls"));
     // A bare name is a file here, not something to be searched for.
     let program = program.canonicalize().map_err(|error| {
         io::Error::other(format!("nothing was compared: the program {} is not there ({error})", program.display()))
