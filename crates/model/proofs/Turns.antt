@@ -498,5 +498,5 @@ short_of_permits q short =
           poll_out_granted n t q (record { owner = h; job = bare; stage = called }) e r refl ∙ give_permit_short h q (set_outs (ended n q.outs) q) short;
       with_room = λ n t h e r f.
           poll_out_room n t q (record { owner = h; job = bare; stage = idle }) e r refl (ap not f) ∙ give_permit_short h q (acquire (set_outs (ended n q.outs) q)) short;
-      not_aSend = λ n t h v st e. not_a_send n t q (record { owner = h; job = carrying v; stage = st }) v refl e;
+      not_a_send = λ n t h v st e. not_a_send n t q (record { owner = h; job = carrying v; stage = st }) v refl e;
     }

@@ -82,4 +82,4 @@ pub record ShortOfPermits (q : Queue) : Type 0 where
       → step (TryRes s) q ≡ refuse NO_ROOM q
   pub granted : (n t h : ℕ) → Open q.outs n h bare called → no_receiver q ≡ false → step (PollOut n t) q ≡ refuse NO_ROOM q
   pub with_room : (n t h : ℕ) → Open q.outs n h bare idle → no_receiver q ≡ false → no_free q ≡ false → step (PollOut n t) q ≡ refuse NO_ROOM q
-  pub not_aSend : (n t h v : ℕ) (st : Stage) → Open q.outs n h (carrying v) st → (step (PollOut n t) q).ans.code ≡ NO_ROOM → ⊥
+  pub not_a_send : (n t h v : ℕ) (st : Stage) → Open q.outs n h (carrying v) st → (step (PollOut n t) q).ans.code ≡ NO_ROOM → ⊥

@@ -182,8 +182,8 @@ module _ {A : Type 0} (turn_of : A → ℕ) where
           go false q = closed_last (leb-false (turn_of x) LAST_TURN q) b c
 
 -- WHAT STANDS AT A PLACE, AND AT A NUMBER
-module _ {A R : Type 0} (turn_of : A → ℕ) (recordOf : A → R) where
-  pub size_places : (l : List Bool) (xs : List A) → length xs ≤ length l → size (places_of turn_of recordOf l xs) ≡ length xs
+module _ {A R : Type 0} (turn_of : A → ℕ) (record_of : A → R) where
+  pub size_places : (l : List Bool) (xs : List A) → length xs ≤ length l → size (places_of turn_of record_of l xs) ≡ length xs
   unfolding places_of
   size_places [] [] h = refl
   size_places [] (x ∷ xs) h = absurd (omega arith)
@@ -191,7 +191,7 @@ module _ {A R : Type 0} (turn_of : A → ℕ) (recordOf : A → R) where
   size_places (b ∷ l) (x ∷ xs) h = ap suc (size_places l xs (omega arith))
 
   pub places_at : (l : List Bool) (xs : List A) (i : ℕ) (d : A) → i < length xs → length xs ≤ length l
-      → get_or (places_of turn_of recordOf l xs) i (vacant 0) ≡ place_at turn_of recordOf (get_or l i false) (get_or xs i d)
+      → get_or (places_of turn_of record_of l xs) i (vacant 0) ≡ place_at turn_of record_of (get_or l i false) (get_or xs i d)
   unfolding places_of
   places_at l [] i d h g = absurd (omega arith)
   places_at [] (x ∷ xs) i d h g = absurd (omega arith)
@@ -200,23 +200,23 @@ module _ {A R : Type 0} (turn_of : A → ℕ) (recordOf : A → R) where
 
   -- its turn, live or not
   pub turn_there : (l : List Bool) (xs : List A) (i : ℕ) (d : A) → i < length xs → length xs ≤ length l
-      → turn (get_or (places_of turn_of recordOf l xs) i (vacant 0)) ≡ turn_of (get_or xs i d)
+      → turn (get_or (places_of turn_of record_of l xs) i (vacant 0)) ≡ turn_of (get_or xs i d)
   turn_there l xs i d h g = ap turn (places_at l xs i d h g) ∙ by (get_or l i false)
     where
-      by : (b : Bool) → turn (place_at turn_of recordOf b (get_or xs i d)) ≡ turn_of (get_or xs i d)
+      by : (b : Bool) → turn (place_at turn_of record_of b (get_or xs i d)) ≡ turn_of (get_or xs i d)
       by true = refl
       by false = refl
 
   pub place_live : (l : List Bool) (xs : List A) (i : ℕ) (d : A) → i < length xs → get_or l i false ≡ true
-      → get_or (places_of turn_of recordOf l xs) i (vacant 0) ≡ holds (turn_of (get_or xs i d)) (recordOf (get_or xs i d))
+      → get_or (places_of turn_of record_of l xs) i (vacant 0) ≡ holds (turn_of (get_or xs i d)) (record_of (get_or xs i d))
   unfolding places_of
   place_live l [] i d h e = absurd (omega arith)
   place_live [] (x ∷ xs) i d h e = both_bits false e refl
-  place_live (b ∷ l) (x ∷ xs) zero d h e = ap (λ (c : Bool). place_at turn_of recordOf c x) e
+  place_live (b ∷ l) (x ∷ xs) zero d h e = ap (λ (c : Bool). place_at turn_of record_of c x) e
   place_live (b ∷ l) (x ∷ xs) (suc i) d h e = place_live l xs i d (omega arith) e
 
   pub place_vacant : (l : List Bool) (xs : List A) (i : ℕ) → get_or l i false ≡ false
-      → get_or (places_of turn_of recordOf l xs) i (vacant 0) ≡ vacant (turn (get_or (places_of turn_of recordOf l xs) i (vacant 0)))
+      → get_or (places_of turn_of record_of l xs) i (vacant 0) ≡ vacant (turn (get_or (places_of turn_of record_of l xs) i (vacant 0)))
   unfolding places_of
   place_vacant [] xs i e = refl
   place_vacant (b ∷ l) [] i e = refl
@@ -225,31 +225,31 @@ module _ {A R : Type 0} (turn_of : A → ℕ) (recordOf : A → R) where
   place_vacant (b ∷ l) (x ∷ xs) (suc i) e = place_vacant l xs i e
 
   module _ (l : List Bool) (xs : List A) (n : ℕ) where
-    pub lookup_vacant : get_or l (n % 64) false ≡ false → lookup (places_of turn_of recordOf l xs) n ≡ none
+    pub lookup_vacant : get_or l (n % 64) false ≡ false → lookup (places_of turn_of record_of l xs) n ≡ none
     lookup_vacant e = ap (at_turn (n / 64)) (place_vacant l xs (n % 64) e)
 
     module _ (d : A) (h : n % 64 < length xs) (e : get_or l (n % 64) false ≡ true) where
-      pub lookup_here : n / 64 ≡ turn_of (get_or xs (n % 64) d) → lookup (places_of turn_of recordOf l xs) n ≡ some (recordOf (get_or xs (n % 64) d))
+      pub lookup_here : n / 64 ≡ turn_of (get_or xs (n % 64) d) → lookup (places_of turn_of record_of l xs) n ≡ some (record_of (get_or xs (n % 64) d))
       lookup_here k =
           ap (at_turn (n / 64)) (place_live l xs (n % 64) d h e)
-          ∙ on_turn_lem (n / 64) (holds (turn_of (get_or xs (n % 64) d)) (recordOf (get_or xs (n % 64) d))) k
+          ∙ on_turn_lem (n / 64) (holds (turn_of (get_or xs (n % 64) d)) (record_of (get_or xs (n % 64) d))) k
 
-      pub lookup_stale : (n / 64 ≡ turn_of (get_or xs (n % 64) d) → ⊥) → lookup (places_of turn_of recordOf l xs) n ≡ none
+      pub lookup_stale : (n / 64 ≡ turn_of (get_or xs (n % 64) d) → ⊥) → lookup (places_of turn_of record_of l xs) n ≡ none
       lookup_stale k =
           ap (at_turn (n / 64)) (place_live l xs (n % 64) d h e)
-          ∙ off_turn (n / 64) (holds (turn_of (get_or xs (n % 64) d)) (recordOf (get_or xs (n % 64) d))) k
+          ∙ off_turn (n / 64) (holds (turn_of (get_or xs (n % 64) d)) (record_of (get_or xs (n % 64) d))) k
 
   -- a live number: its place is live, at its turn, and holds its record
   pub record Stands (l : List Bool) (xs : List A) (n : ℕ) (d : A) (a : R) : Type 0 where
     pub here : get_or l (n % 64) false ≡ true
     pub on_turn : n / 64 ≡ turn_of (get_or xs (n % 64) d)
-    pub is : recordOf (get_or xs (n % 64) d) ≡ a
+    pub is : record_of (get_or xs (n % 64) d) ≡ a
 
   pub stands : (limit : ℕ) (l : List Bool) (xs : List A) (n : ℕ) (d : A) (a : R) → length xs ≡ limit → Within limit l
-      → lookup (places_of turn_of recordOf l xs) n ≡ some a → Stands l xs n d a
+      → lookup (places_of turn_of record_of l xs) n ≡ some a → Stands l xs n d a
   stands limit l xs n d a sized w e = go (get_or l (n % 64) false) refl
     where
-      none_some : {P : Type 0} → lookup (places_of turn_of recordOf l xs) n ≡ none → P
+      none_some : {P : Type 0} → lookup (places_of turn_of record_of l xs) n ≡ none → P
       none_some q = let z : ◌≡◌ {A = ℕ} 0 1 = cc in absurd (omega arith)
 
       go : (b : Bool) → get_or l (n % 64) false ≡ b → Stands l xs n d a
@@ -265,36 +265,36 @@ module _ {A R : Type 0} (turn_of : A → ℕ) (recordOf : A → R) where
 
   -- A RECORD COMES, GOES, IS WRITTEN
   places_set : (l : List Bool) (xs : List A) (i : ℕ) (b : Bool) (x : A)
-      → places_of turn_of recordOf (set l i b) (set xs i x) ≡ set (places_of turn_of recordOf l xs) i (place_at turn_of recordOf b x)
+      → places_of turn_of record_of (set l i b) (set xs i x) ≡ set (places_of turn_of record_of l xs) i (place_at turn_of record_of b x)
   unfolding places_of
   places_set [] xs i b x = refl
   places_set (c ∷ l) [] zero b x = refl
   places_set (c ∷ l) [] (suc i) b x = refl
   places_set (c ∷ l) (y ∷ xs) zero b x = refl
-  places_set (c ∷ l) (y ∷ xs) (suc i) b x = ap (λ (t : Table R). place_at turn_of recordOf c y ∷ t) (places_set l xs i b x)
+  places_set (c ∷ l) (y ∷ xs) (suc i) b x = ap (λ (t : Table R). place_at turn_of record_of c y ∷ t) (places_set l xs i b x)
 
   module _ (l : List Bool) (xs : List A) (n : ℕ) (x : A) where
-    pub places_put : turn_of x ≡ n / 64 → places_of turn_of recordOf (set l (n % 64) true) (set xs (n % 64) x) ≡ put (places_of turn_of recordOf l xs) n (recordOf x)
+    pub places_put : turn_of x ≡ n / 64 → places_of turn_of record_of (set l (n % 64) true) (set xs (n % 64) x) ≡ put (places_of turn_of record_of l xs) n (record_of x)
     places_put e =
-        places_set l xs (n % 64) true x ∙ ap (λ (k : ℕ). set (places_of turn_of recordOf l xs) (n % 64) (holds k (recordOf x))) e
+        places_set l xs (n % 64) true x ∙ ap (λ (k : ℕ). set (places_of turn_of record_of l xs) (n % 64) (holds k (record_of x))) e
 
-    pub places_clear : turn_of x ≡ suc (n / 64) → places_of turn_of recordOf (set l (n % 64) false) (set xs (n % 64) x) ≡ clear (places_of turn_of recordOf l xs) n
-    places_clear e = places_set l xs (n % 64) false x ∙ ap (λ (k : ℕ). set (places_of turn_of recordOf l xs) (n % 64) (vacant k)) e
+    pub places_clear : turn_of x ≡ suc (n / 64) → places_of turn_of record_of (set l (n % 64) false) (set xs (n % 64) x) ≡ clear (places_of turn_of record_of l xs) n
+    places_clear e = places_set l xs (n % 64) false x ∙ ap (λ (k : ℕ). set (places_of turn_of record_of l xs) (n % 64) (vacant k)) e
 
-    pub places_write : get_or l (n % 64) false ≡ true → turn_of x ≡ n / 64 → places_of turn_of recordOf l (set xs (n % 64) x) ≡ put (places_of turn_of recordOf l xs) n (recordOf x)
+    pub places_write : get_or l (n % 64) false ≡ true → turn_of x ≡ n / 64 → places_of turn_of record_of l (set xs (n % 64) x) ≡ put (places_of turn_of record_of l xs) n (record_of x)
     places_write q e =
         let still : set l (n % 64) true ≡ l = ap (set l (n % 64)) (sym q) ∙ set-get_or l (n % 64) false in
-        ap (λ (w : List Bool). places_of turn_of recordOf w (set xs (n % 64) x)) (sym still) ∙ places_put e
+        ap (λ (w : List Bool). places_of turn_of record_of w (set xs (n % 64) x)) (sym still) ∙ places_put e
 
   -- no record is live, and none ever was
-  never_used : (n limit : ℕ) (x : A) → turn_of x ≡ 0 → limit ≤ n → places_of turn_of recordOf (replicate n false) (replicate limit x) ≡ blank limit
+  never_used : (n limit : ℕ) (x : A) → turn_of x ≡ 0 → limit ≤ n → places_of turn_of record_of (replicate n false) (replicate limit x) ≡ blank limit
   unfolding places_of
   never_used zero zero x e h = refl
   never_used zero (suc limit) x e h = absurd (omega arith)
   never_used (suc n) zero x e h = refl
   never_used (suc n) (suc limit) x e h = ap₂ (λ (k : ℕ) (t : Table R). vacant k ∷ t) e (never_used n limit x e (omega arith))
 
-  pub places_blank : (limit : ℕ) (x : A) → turn_of x ≡ 0 → limit ≤ 64 → places_of turn_of recordOf none_live (replicate limit x) ≡ blank limit
+  pub places_blank : (limit : ℕ) (x : A) → turn_of x ≡ 0 → limit ≤ 64 → places_of turn_of record_of none_live (replicate limit x) ≡ blank limit
   unfolding none_live
   places_blank limit x e h = never_used 64 limit x e h
 
@@ -310,25 +310,25 @@ module _ {A R : Type 0} (turn_of : A → ℕ) (recordOf : A → R) where
       }
 
   lowest_go : (d : A) (limit : ℕ) (l m : List Bool) (xs : List A) → Used turn_of limit l m xs → limit ≤ length l → limit ≤ length m → lowest_clear (either l m) < limit
-      → lowest (places_of turn_of recordOf l xs) ≡ some (lowest_clear (either l m) + 64 * turn_of (get_or xs (lowest_clear (either l m)) d))
+      → lowest (places_of turn_of record_of l xs) ≡ some (lowest_clear (either l m) + 64 * turn_of (get_or xs (lowest_clear (either l m)) d))
   unfolding places_of lowest_clear either
   lowest_go d zero l m xs u p q h = absurd (omega arith)
   lowest_go d (suc limit) [] m xs u p q h = absurd (omega arith)
   lowest_go d (suc limit) (b ∷ l) [] xs u p q h = absurd (omega arith)
   lowest_go d (suc limit) (b ∷ l) (c ∷ m) [] u p q h = absurd (let s = u.sized in omega arith)
   lowest_go d (suc limit) (true ∷ l) (c ∷ m) (x ∷ xs) u p q h =
-      next_place (lowest (places_of turn_of recordOf l xs)) (lowest_clear (either l m)) (64 * turn_of (get_or xs (lowest_clear (either l m)) d))
+      next_place (lowest (places_of turn_of record_of l xs)) (lowest_clear (either l m)) (64 * turn_of (get_or xs (lowest_clear (either l m)) d))
       (lowest_go d limit l m xs (used_tail limit true c l m x xs u) (omega arith) (omega arith) (omega arith))
   lowest_go d (suc limit) (false ∷ l) (true ∷ m) (x ∷ xs) u p q h =
-      vacant_spent (turn_of x) (places_of turn_of recordOf l xs) (u.over 0 refl).1
-      ∙ next_place (lowest (places_of turn_of recordOf l xs)) (lowest_clear (either l m)) (64 * turn_of (get_or xs (lowest_clear (either l m)) d))
+      vacant_spent (turn_of x) (places_of turn_of record_of l xs) (u.over 0 refl).1
+      ∙ next_place (lowest (places_of turn_of record_of l xs)) (lowest_clear (either l m)) (64 * turn_of (get_or xs (lowest_clear (either l m)) d))
       (lowest_go d limit l m xs (used_tail limit false true l m x xs u) (omega arith) (omega arith) (omega arith))
   lowest_go d (suc limit) (false ∷ l) (false ∷ m) (x ∷ xs) u p q h =
       let first : 64 * turn_of x ≡ 0 + 64 * turn_of x = omega arith in
-      vacant_given (turn_of x) (places_of turn_of recordOf l xs) (u.left 0 refl) ∙ ap some first
+      vacant_given (turn_of x) (places_of turn_of record_of l xs) (u.left 0 refl) ∙ ap some first
 
   none_go : (limit : ℕ) (l m : List Bool) (xs : List A) → Used turn_of limit l m xs → limit ≤ length m → limit ≤ lowest_clear (either l m)
-      → lowest (places_of turn_of recordOf l xs) ≡ none
+      → lowest (places_of turn_of record_of l xs) ≡ none
   unfolding places_of lowest_clear either
   none_go limit [] m xs u q h = refl
   none_go limit (b ∷ l) m [] u q h = refl
@@ -337,16 +337,16 @@ module _ {A R : Type 0} (turn_of : A → ℕ) (recordOf : A → R) where
   none_go (suc limit) (true ∷ l) (c ∷ m) (x ∷ xs) u q h =
       ap one_more (none_go limit l m xs (used_tail limit true c l m x xs u) (omega arith) (omega arith))
   none_go (suc limit) (false ∷ l) (true ∷ m) (x ∷ xs) u q h =
-      vacant_spent (turn_of x) (places_of turn_of recordOf l xs) (u.over 0 refl).1
+      vacant_spent (turn_of x) (places_of turn_of record_of l xs) (u.over 0 refl).1
       ∙ ap one_more (none_go limit l m xs (used_tail limit false true l m x xs u) (omega arith) (omega arith))
   none_go (suc limit) (false ∷ l) (false ∷ m) (x ∷ xs) u q h = absurd (omega arith)
 
   module _ (limit : ℕ) (l m : List Bool) (xs : List A) (u : Used turn_of limit l m xs) (p : limit ≤ length l) (q : limit ≤ length m) where
     module _ (i : ℕ) (e : i ≡ lowest_clear (either l m)) where
-      pub lowest_given : (d : A) → i < limit → lowest (places_of turn_of recordOf l xs) ≡ some (i + 64 * turn_of (get_or xs i d))
+      pub lowest_given : (d : A) → i < limit → lowest (places_of turn_of record_of l xs) ≡ some (i + 64 * turn_of (get_or xs i d))
       lowest_given d h = lowest_go d limit l m xs u p q (omega arith) ∙ ap (λ (j : ℕ). some (j + 64 * turn_of (get_or xs j d))) (sym e)
 
-      pub lowest_none : limit ≤ i → lowest (places_of turn_of recordOf l xs) ≡ none
+      pub lowest_none : limit ≤ i → lowest (places_of turn_of record_of l xs) ≡ none
       lowest_none h = none_go limit l m xs u q (omega arith)
 
       -- the place given is not used up
@@ -354,7 +354,7 @@ module _ {A R : Type 0} (turn_of : A → ℕ) (recordOf : A → R) where
       given_unspent h = (either_clear l m i (omega arith) (omega arith) (ap (λ (j : ℕ). get_or (either l m) j false) e ∙ lowest_clear_lem (either l m))).1
 
   -- HOW MANY ARE LIVE: the live word's count
-  pub live_places : (limit : ℕ) (l : List Bool) (xs : List A) → length xs ≡ limit → limit ≤ length l → Within limit l → live (places_of turn_of recordOf l xs) ≡ count_live l
+  pub live_places : (limit : ℕ) (l : List Bool) (xs : List A) → length xs ≡ limit → limit ≤ length l → Within limit l → live (places_of turn_of record_of l xs) ≡ count_live l
   unfolding places_of count_live
   live_places limit [] xs s h w = refl
   live_places limit (b ∷ l) [] s h w = sym (le-zero (count_within 0 (b ∷ l) (subst (λ (k : ℕ). Within k (b ∷ l)) (sym s) w)))
@@ -363,10 +363,10 @@ module _ {A R : Type 0} (turn_of : A → ℕ) (recordOf : A → R) where
   live_places (suc limit) (false ∷ l) (x ∷ xs) s h w = let q = live_places limit l xs (omega arith) (omega arith) (within_tail limit false l w) in omega arith
 
 -- EACH RECORD changed is each record shown otherwise
-pub places_each : {A R S : Type 0} (turn_of : A → ℕ) (recordOf : A → R) (f : R → S) (l : List Bool) (xs : List A)
-    → places_of turn_of (λ x. f (recordOf x)) l xs ≡ each f (places_of turn_of recordOf l xs)
+pub places_each : {A R S : Type 0} (turn_of : A → ℕ) (record_of : A → R) (f : R → S) (l : List Bool) (xs : List A)
+    → places_of turn_of (λ x. f (record_of x)) l xs ≡ each f (places_of turn_of record_of l xs)
 unfolding places_of
-places_each turn_of recordOf f [] xs = refl
-places_each turn_of recordOf f (b ∷ l) [] = refl
-places_each turn_of recordOf f (true ∷ l) (x ∷ xs) = ap (λ (t : Table _). holds (turn_of x) (f (recordOf x)) ∷ t) (places_each turn_of recordOf f l xs)
-places_each turn_of recordOf f (false ∷ l) (x ∷ xs) = ap (λ (t : Table _). vacant (turn_of x) ∷ t) (places_each turn_of recordOf f l xs)
+places_each turn_of record_of f [] xs = refl
+places_each turn_of record_of f (b ∷ l) [] = refl
+places_each turn_of record_of f (true ∷ l) (x ∷ xs) = ap (λ (t : Table _). holds (turn_of x) (f (record_of x)) ∷ t) (places_each turn_of record_of f l xs)
+places_each turn_of record_of f (false ∷ l) (x ∷ xs) = ap (λ (t : Table _). vacant (turn_of x) ∷ t) (places_each turn_of record_of f l xs)

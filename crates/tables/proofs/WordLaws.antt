@@ -22,71 +22,71 @@ live_some : {R : Type 0} (o : Option R) → is_live o ≡ true → (a : R) × (o
 live_some none e = let z : ◌≡◌ {A = ℕ} 0 1 = cc in absurd (omega arith)
 live_some (some a) e = (a, refl)
 
-module _ {A R : Type 0} (turn_of : A → ℕ) (recordOf : A → R) (d : A) (limit : ℕ) (few : limit ≤ 64) (w s : Live) (xs : List A) (u : Used turn_of limit (live_of w) (live_of s) xs) where
+module _ {A R : Type 0} (turn_of : A → ℕ) (record_of : A → R) (d : A) (limit : ℕ) (few : limit ≤ 64) (w s : Live) (xs : List A) (u : Used turn_of limit (live_of w) (live_of s) xs) where
   long : limit ≤ length (live_of w)
   long = omega (arith, length_live w)
 
   beside : limit ≤ length (live_of s)
   beside = omega (arith, length_live s)
 
-  pub wide : size (places_of turn_of recordOf (live_of w) xs) ≡ limit
-  wide = size_places turn_of recordOf (live_of w) xs (omega (arith, u.sized, long)) ∙ u.sized
+  pub wide : size (places_of turn_of record_of (live_of w) xs) ≡ limit
+  wide = size_places turn_of record_of (live_of w) xs (omega (arith, u.sized, long)) ∙ u.sized
 
-  pub counted : (n : ℕ) → n ≡ count_live (live_of w) → n ≡ live (places_of turn_of recordOf (live_of w) xs)
-  counted n e = e ∙ sym (live_places turn_of recordOf limit (live_of w) xs u.sized long u.within)
+  pub counted : (n : ℕ) → n ≡ count_live (live_of w) → n ≡ live (places_of turn_of record_of (live_of w) xs)
+  counted n e = e ∙ sym (live_places turn_of record_of limit (live_of w) xs u.sized long u.within)
 
   -- what stands at a place that the word was asked of
   module _ (i : ℕ) (b : Bool) (e : b ≡ get_or (live_of w) i false) where
     pub live_small : b ≡ true → i < limit
     live_small t = live_below limit (live_of w) i u.within (sym e ∙ t)
 
-    pub live_in : b ≡ true → in_place (get_or (places_of turn_of recordOf (live_of w) xs) i (vacant 0)) ≡ some (recordOf (get_or xs i d))
-    live_in t = ap in_place (place_live turn_of recordOf (live_of w) xs i d (omega (arith, live_small t, u.sized)) (sym e ∙ t))
+    pub live_in : b ≡ true → in_place (get_or (places_of turn_of record_of (live_of w) xs) i (vacant 0)) ≡ some (record_of (get_or xs i d))
+    live_in t = ap in_place (place_live turn_of record_of (live_of w) xs i d (omega (arith, live_small t, u.sized)) (sym e ∙ t))
 
-    pub vacant_in : b ≡ false → in_place (get_or (places_of turn_of recordOf (live_of w) xs) i (vacant 0)) ≡ none
-    vacant_in t = ap in_place (place_vacant turn_of recordOf (live_of w) xs i (sym e ∙ t))
+    pub vacant_in : b ≡ false → in_place (get_or (places_of turn_of record_of (live_of w) xs) i (vacant 0)) ≡ none
+    vacant_in t = ap in_place (place_vacant turn_of record_of (live_of w) xs i (sym e ∙ t))
 
   -- is a number live
   module _ (n : ℕ) (b : Bool) (e : b ≡ get_or (live_of w) (n % 64) false) where
-    pub has_turn : b ≡ true → eqb (turn_of (get_or xs (n % 64) d)) (n / 64) ≡ is_live (lookup (places_of turn_of recordOf (live_of w) xs) n)
+    pub has_turn : b ≡ true → eqb (turn_of (get_or xs (n % 64) d)) (n / 64) ≡ is_live (lookup (places_of turn_of record_of (live_of w) xs) n)
     has_turn t = go (ℕ_discrete (n / 64) (turn_of (get_or xs (n % 64) d)))
       where
         h : n % 64 < length xs
         h = omega (arith, live_small (n % 64) b e t, u.sized)
 
-        go : Dec (n / 64 ≡ turn_of (get_or xs (n % 64) d)) → eqb (turn_of (get_or xs (n % 64) d)) (n / 64) ≡ is_live (lookup (places_of turn_of recordOf (live_of w) xs) n)
+        go : Dec (n / 64 ≡ turn_of (get_or xs (n % 64) d)) → eqb (turn_of (get_or xs (n % 64) d)) (n / 64) ≡ is_live (lookup (places_of turn_of record_of (live_of w) xs) n)
         go (yes k) =
-            eq-eqb (turn_of (get_or xs (n % 64) d)) (n / 64) (sym k) ∙ sym (ap is_live (lookup_here turn_of recordOf (live_of w) xs n d h (sym e ∙ t) k))
+            eq-eqb (turn_of (get_or xs (n % 64) d)) (n / 64) (sym k) ∙ sym (ap is_live (lookup_here turn_of record_of (live_of w) xs n d h (sym e ∙ t) k))
         go (no k) =
-            ne_eqb (turn_of (get_or xs (n % 64) d)) (n / 64) (λ z. k (sym z)) ∙ sym (ap is_live (lookup_stale turn_of recordOf (live_of w) xs n d h (sym e ∙ t) k))
+            ne_eqb (turn_of (get_or xs (n % 64) d)) (n / 64) (λ z. k (sym z)) ∙ sym (ap is_live (lookup_stale turn_of record_of (live_of w) xs n d h (sym e ∙ t) k))
 
-    pub has_not : b ≡ false → false ≡ is_live (lookup (places_of turn_of recordOf (live_of w) xs) n)
-    has_not t = sym (ap is_live (lookup_vacant turn_of recordOf (live_of w) xs n (sym e ∙ t)))
+    pub has_not : b ≡ false → false ≡ is_live (lookup (places_of turn_of record_of (live_of w) xs) n)
+    has_not t = sym (ap is_live (lookup_vacant turn_of record_of (live_of w) xs n (sym e ∙ t)))
 
   -- the turn of a place, live or not: below the limit, and past it
   module _ (i : ℕ) where
-    pub turn_below : i < limit → turn_of (get_or xs i d) ≡ turn (get_or (places_of turn_of recordOf (live_of w) xs) i (vacant 0))
-    turn_below h = sym (turn_there turn_of recordOf (live_of w) xs i d (omega (arith, u.sized)) (omega (arith, u.sized, long)))
+    pub turn_below : i < limit → turn_of (get_or xs i d) ≡ turn (get_or (places_of turn_of record_of (live_of w) xs) i (vacant 0))
+    turn_below h = sym (turn_there turn_of record_of (live_of w) xs i d (omega (arith, u.sized)) (omega (arith, u.sized, long)))
 
-    pub turn_past : limit ≤ i → 0 ≡ turn (get_or (places_of turn_of recordOf (live_of w) xs) i (vacant 0))
-    turn_past h = sym (ap turn (get_or-eq_default (places_of turn_of recordOf (live_of w) xs) (vacant 0) {n = i} (omega (arith, wide))))
+    pub turn_past : limit ≤ i → 0 ≡ turn (get_or (places_of turn_of record_of (live_of w) xs) i (vacant 0))
+    turn_past h = sym (ap turn (get_or-eq_default (places_of turn_of record_of (live_of w) xs) (vacant 0) {n = i} (omega (arith, wide))))
 
   -- was a number given, and is it closed
   module _ (n : ℕ) where
-    pub closed_below : n % 64 < limit → ltb (n / 64) (turn_of (get_or xs (n % 64) d)) ≡ was_closed (places_of turn_of recordOf (live_of w) xs) n
+    pub closed_below : n % 64 < limit → ltb (n / 64) (turn_of (get_or xs (n % 64) d)) ≡ was_closed (places_of turn_of record_of (live_of w) xs) n
     closed_below h = ap (ltb (n / 64)) (turn_below (n % 64) h)
 
-    pub closed_past : limit ≤ n % 64 → false ≡ was_closed (places_of turn_of recordOf (live_of w) xs) n
+    pub closed_past : limit ≤ n % 64 → false ≡ was_closed (places_of turn_of record_of (live_of w) xs) n
     closed_past h = sym (le-ltb (n / 64) 0 (omega arith)) ∙ ap (ltb (n / 64)) (turn_past (n % 64) h)
 
   -- a record opens at the place that the two words give
   module _ (i : ℕ) (e : i ≡ lowest_clear (either (live_of w) (live_of s))) where
-    pub none_left : limit ≤ i → none ≡ lowest (places_of turn_of recordOf (live_of w) xs)
-    none_left h = sym (lowest_none turn_of recordOf limit (live_of w) (live_of s) xs u long beside i e h)
+    pub none_left : limit ≤ i → none ≡ lowest (places_of turn_of record_of (live_of w) xs)
+    none_left h = sym (lowest_none turn_of record_of limit (live_of w) (live_of s) xs u long beside i e h)
 
     module _ (h : i < limit) where
       free : get_or (live_of s) i false ≡ false
-      free = given_unspent turn_of recordOf limit (live_of w) (live_of s) xs u long beside i e h
+      free = given_unspent turn_of record_of limit (live_of w) (live_of s) xs u long beside i e h
 
       turn_here : turn_at turn_of xs i ≡ turn_of (get_or xs i d)
       turn_here = turn_at_lem turn_of xs i d (omega (arith, u.sized))
@@ -95,8 +95,8 @@ module _ {A R : Type 0} (turn_of : A → ℕ) (recordOf : A → R) (d : A) (limi
       turn_left = omega (arith, u.left i free, turn_here)
 
       module _ (n : ℕ) (q : n ≡ i + 64 * turn_of (get_or xs i d)) where
-        pub number_given : some n ≡ lowest (places_of turn_of recordOf (live_of w) xs)
-        number_given = sym (lowest_given turn_of recordOf limit (live_of w) (live_of s) xs u long beside i e d h ∙ ap some (sym q))
+        pub number_given : some n ≡ lowest (places_of turn_of record_of (live_of w) xs)
+        number_given = sym (lowest_given turn_of record_of limit (live_of w) (live_of s) xs u long beside i e d h ∙ ap some (sym q))
 
         module _ (x : A) (k : turn_of x ≡ turn_of (get_or xs i d)) (r : Live) (g : live_of r ≡ set (live_of w) i true) where
           pub opened_used : Used turn_of limit (live_of r) (live_of s) (set xs i x)
@@ -104,20 +104,20 @@ module _ {A R : Type 0} (turn_of : A → ℕ) (recordOf : A → R) (d : A) (limi
               subst (λ (l : List Bool). Used turn_of limit l (live_of s) (set xs i x)) (sym g)
               (used_open turn_of limit (live_of w) (live_of s) xs u i x h free (k ∙ sym turn_here))
 
-          pub opened_places : places_of turn_of recordOf (live_of r) (set xs i x) ≡ put (places_of turn_of recordOf (live_of w) xs) n (recordOf x)
+          pub opened_places : places_of turn_of record_of (live_of r) (set xs i x) ≡ put (places_of turn_of record_of (live_of w) xs) n (record_of x)
           opened_places =
               let place : n % 64 ≡ i = ap (λ (m : ℕ). m % 64) q ∙ number_place i (turn_of (get_or xs i d)) (omega arith) in
               let turn : n / 64 ≡ turn_of (get_or xs i d) = ap (λ (m : ℕ). m / 64) q ∙ number_turn i (turn_of (get_or xs i d)) (omega arith) in
-              ap (λ (l : List Bool). places_of turn_of recordOf l (set xs i x)) g
-              ∙ (ap (λ (j : ℕ). places_of turn_of recordOf (set (live_of w) j true) (set xs j x)) (sym place)
-              ∙ places_put turn_of recordOf (live_of w) xs n x (k ∙ sym turn))
+              ap (λ (l : List Bool). places_of turn_of record_of l (set xs i x)) g
+              ∙ (ap (λ (j : ℕ). places_of turn_of record_of (set (live_of w) j true) (set xs j x)) (sym place)
+              ∙ places_put turn_of record_of (live_of w) xs n x (k ∙ sym turn))
 
   -- a live record closes
-  module _ (n : ℕ) (is : is_live (lookup (places_of turn_of recordOf (live_of w) xs) n) ≡ true) where
-    standing : (a : R) × Stands turn_of recordOf (live_of w) xs n d a
+  module _ (n : ℕ) (is : is_live (lookup (places_of turn_of record_of (live_of w) xs) n) ≡ true) where
+    standing : (a : R) × Stands turn_of record_of (live_of w) xs n d a
     standing =
-        let o = live_some (lookup (places_of turn_of recordOf (live_of w) xs) n) is in
-        (o.0, stands turn_of recordOf limit (live_of w) xs n d o.0 u.sized u.within o.1)
+        let o = live_some (lookup (places_of turn_of record_of (live_of w) xs) n) is in
+        (o.0, stands turn_of record_of limit (live_of w) xs n d o.0 u.sized u.within o.1)
 
     pub closing_small : n % 64 < limit
     closing_small = live_below limit (live_of w) (n % 64) u.within standing.1.here
@@ -132,7 +132,7 @@ module _ {A R : Type 0} (turn_of : A → ℕ) (recordOf : A → R) (d : A) (limi
           (subst (λ (m : List Bool). Used turn_of limit (set (live_of w) (n % 64) false) m (set xs (n % 64) x)) (sym spent)
           (used_close turn_of limit (live_of w) (live_of s) xs u (n % 64) x standing.1.here next (omega (arith, closing_small, beside)) (omega (arith, closing_small, long))))
 
-      pub closed_places : places_of turn_of recordOf (live_of r) (set xs (n % 64) x) ≡ clear (places_of turn_of recordOf (live_of w) xs) n
+      pub closed_places : places_of turn_of record_of (live_of r) (set xs (n % 64) x) ≡ clear (places_of turn_of record_of (live_of w) xs) n
       closed_places =
           let next : turn_of x ≡ suc (n / 64) = omega arith in
-          ap (λ (l : List Bool). places_of turn_of recordOf l (set xs (n % 64) x)) g ∙ places_clear turn_of recordOf (live_of w) xs n x next
+          ap (λ (l : List Bool). places_of turn_of record_of l (set xs (n % 64) x)) g ∙ places_clear turn_of record_of (live_of w) xs n x next

@@ -25,9 +25,9 @@ module _ {A : Type 0} (turn_of : A → ℕ) where
     pub left : (i : ℕ) → get_or spent i false ≡ false → turn_at xs i ≤ LAST_TURN
 
 -- the two lists side by side, ending with the shorter
-module _ {A R : Type 0} (turn_of : A → ℕ) (recordOf : A → R) where
+module _ {A R : Type 0} (turn_of : A → ℕ) (record_of : A → R) where
   abbrev pub place_at : Bool → A → Place R
-  place_at true x = holds (turn_of x) (recordOf x)
+  place_at true x = holds (turn_of x) (record_of x)
   place_at false x = vacant (turn_of x)
 
   unfoldable pub places_of : List Bool → List A → Table R

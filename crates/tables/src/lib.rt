@@ -7,7 +7,8 @@
 
 ghost use Rattle.std.specs.Prelude.{◌≡◌, true, ◌+◌, ◌*◌, ◌<◌, ◌≤◌, get_or};
 ghost use Rattle.live.specs.Bits.{live_of};
-ghost use Rattle.model.specs.Table.{LAST_TURN, vacant, in_place, lookup, was_closed, live, of, sum};
+ghost use Rattle.model.specs.Table as model;
+ghost use Rattle.model.specs.Table.{vacant, in_place, lookup, was_closed, live, of, sum};
 ghost use Rattle.tables.specs.Places.{spent_by};
 ghost use Rattle.tables.specs.Meaning.{handles_of, permits_of, is_live, no_handle, no_permit, belongs, HandlesSound, PermitsSound};
 ghost use Rattle.tables.specs.Calls.{NoHandles, NoPermits, Clones, Leaves, Gives, Drops};
@@ -64,7 +65,7 @@ pub struct Given {
 // The number of a record at a place and a turn.
 pub fn number_at(place: u32, turn: u32) -> u32
     requires place_bound { place < 64 }
-    requires turn_bound { turn ≤ LAST_TURN }
+    requires turn_bound { turn ≤ model.LAST_TURN }
     ensures { result ≡ place + 64 * turn }
 {
     place + 64 * turn
