@@ -1,18 +1,16 @@
 -- Promises determine: two arenas of one meaning answer alike, whatever answers the promises allow, and have one meaning again.
 -- Assumes nothing.
 use Prim.Native.Nat.{ℕ}
+use Rattle.std.specs.Prelude.{Option, Some, None}
 use mathlib.Core.Path.{◌≡◌, refl, sym, ap, ◌∙◌}
 use mathlib.Core.List.{List, ◌∷◌}
 use native.Mathlib.Decide.{dec_lt, ℕ_discrete}
 use native.Mathlib.Omega.{arith}
 use lib.ListN.{get_or, drop}
-use Rattle.arena.specs.declared.OptSlot.TheVariants.{Nowhere, At}
 use Rattle.arena.specs.declared.Node.{Node}
 use Rattle.arena.specs.declared.Arena.{Arena}
 use Rattle.arena.specs.declared.Inserted.{Inserted}
 use Rattle.arena.specs.declared.Removed.{Removed}
-use Rattle.arena.specs.declared.Got.{Got}
-use Rattle.arena.specs.declared.Got.TheVariants.{Nothing, Found}
 use Rattle.arena.specs.View.{slot_id, at, spare}
 use Rattle.arena.specs.Calls.{Fresh, Wrote, given, Placed, Inserts, Sets, Removes}
 
@@ -28,11 +26,11 @@ new_one r t p q =
 
 module _ (a b : Arena) (s : Same a b) where
   -- get
-  pub get_one : (i : ℕ) (r t : Got) → r ≡ at a i → t ≡ at b i → r ≡ t
+  pub get_one : (i : ℕ) (r t : Option Node) → r ≡ at a i → t ≡ at b i → r ≡ t
   get_one i r t p q = p ∙ s.holds i ∙ sym q
 
   -- what was written at one place in both
-  wrote_one : (i j : ℕ) (x : Got) (r t : Arena) → i ≡ j → Wrote a i x r → Wrote b j x t → (k : ℕ) → at r k ≡ at t k
+  wrote_one : (i j : ℕ) (x : Option Node) (r t : Arena) → i ≡ j → Wrote a i x r → Wrote b j x t → (k : ℕ) → at r k ≡ at t k
   wrote_one i j x r t e v w k =
       elim (ℕ_discrete k i) [
         | yes h ↦ ap (at r) h ∙ v.here ∙ sym w.here ∙ ap (at t) (sym (h ∙ e))
@@ -52,15 +50,15 @@ module _ (a b : Arena) (s : Same a b) where
     where
       placed : Placed a n r → Placed b n t → (r.id ≡ t.id) × Same r.arena t.arena
       placed v w = (
-        v.id ∙ ap (λ (i : ℕ). At (slot_id i)) same_given ∙ sym w.id,
+        v.id ∙ ap (λ (i : ℕ). Some (slot_id i)) same_given ∙ sym w.id,
         record {
-          holds = wrote_one (given a) (given b) (Found n) r.arena t.arena same_given v.wrote w.wrote;
+          holds = wrote_one (given a) (given b) (Some n) r.arena t.arena same_given v.wrote w.wrote;
           orders = ap (drop 1) (sym v.order ∙ s.orders ∙ w.order);
           counts = omega (arith, v.len, w.len, s.counts);
         },
       )
 
-      refused : r ≡ record { id = Nowhere; arena = a } → t ≡ record { id = Nowhere; arena = b } → (r.id ≡ t.id) × Same r.arena t.arena
+      refused : r ≡ record { id = None; arena = a } → t ≡ record { id = None; arena = b } → (r.id ≡ t.id) × Same r.arena t.arena
       refused v w = (
         ap (λ (x : Inserted). x.id) v ∙ sym (ap (λ (x : Inserted). x.id) w),
         record {
@@ -78,27 +76,27 @@ module _ (a b : Arena) (s : Same a b) where
         counts = p.len ∙ s.counts ∙ sym q.len;
       }
     where
-      by : (g : Got) → at a i ≡ g → (k : ℕ) → at r k ≡ at t k
-      by Nothing e k =
+      by : (g : Option Node) → at a i ≡ g → (k : ℕ) → at r k ≡ at t k
+      by None e k =
           ap (λ (x : Arena). at x k) (p.refused e) ∙ s.holds k ∙ sym (ap (λ (x : Arena). at x k) (q.refused (sym (s.holds i) ∙ e)))
-      by (Found m) e k = wrote_one i i (Found n) r t refl (p.wrote m e) (q.wrote m (sym (s.holds i) ∙ e)) k
+      by (Some m) e k = wrote_one i i (Some n) r t refl (p.wrote m e) (q.wrote m (sym (s.holds i) ∙ e)) k
 
   pub remove_one : (i : ℕ) (r t : Removed) → Removes a i r → Removes b i t → (r.node ≡ t.node) × Same r.arena t.arena
   remove_one i r t p q = (
     p.node ∙ s.holds i ∙ sym q.node,
     record {
-      holds = wrote_one i i Nothing r.arena t.arena refl p.wrote q.wrote;
+      holds = wrote_one i i None r.arena t.arena refl p.wrote q.wrote;
       orders = orders (at a i) refl;
       counts = counts (at a i) refl;
     },
   )
     where
-      orders : (g : Got) → at a i ≡ g → spare r.arena ≡ spare t.arena
-      orders Nothing e = ap spare (p.refused e) ∙ s.orders ∙ sym (ap spare (q.refused (sym (s.holds i) ∙ e)))
-      orders (Found m) e =
+      orders : (g : Option Node) → at a i ≡ g → spare r.arena ≡ spare t.arena
+      orders None e = ap spare (p.refused e) ∙ s.orders ∙ sym (ap spare (q.refused (sym (s.holds i) ∙ e)))
+      orders (Some m) e =
           p.order m e ∙ ap (λ (l : List ℕ). i ∷ l) s.orders ∙ sym (q.order m (sym (s.holds i) ∙ e))
 
-      counts : (g : Got) → at a i ≡ g → r.arena.len ≡ t.arena.len
-      counts Nothing e =
+      counts : (g : Option Node) → at a i ≡ g → r.arena.len ≡ t.arena.len
+      counts None e =
           ap (λ (x : Arena). x.len) (p.refused e) ∙ s.counts ∙ sym (ap (λ (x : Arena). x.len) (q.refused (sym (s.holds i) ∙ e)))
-      counts (Found m) e = omega (arith, p.len m e, q.len m (sym (s.holds i) ∙ e), s.counts)
+      counts (Some m) e = omega (arith, p.len m e, q.len m (sym (s.holds i) ∙ e), s.counts)

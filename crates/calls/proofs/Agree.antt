@@ -3,7 +3,8 @@
 use Prim.Native.Nat.{ℕ, ◌+◌, ◌<◌}
 use mathlib.Core.Path.{◌≡◌, refl, sym, ap, ◌∙◌}
 use mathlib.Core.List.{List, [], ◌∷◌, ◌++◌, append-nil, append_assoc}
-use mathlib.Core.Option.{none}
+use Rattle.std.specs.Prelude.{None}
+use Rattle.std.specs.List.{concat}
 use native.Mathlib.Omega.{arith}
 use native.Mathlib.Decide.{dec_lt, ℕ_discrete}
 use lib.ListN.{length, take, length-append}
@@ -14,7 +15,7 @@ use Rattle.lines.proofs.Reading.{parsed_long}
 use Rattle.lines.specs.Text.{LF}
 use Rattle.calls.specs.Model.{Held, next_of}
 use Rattle.calls.specs.Whole.{grow, lines_of, answer, answers, output}
-use Rattle.calls.specs.Stream.{St, start, keep, next, emit, fed, text, finish, flat, streamed}
+use Rattle.calls.specs.Stream.{St, start, keep, next, emit, fed, text, finish, streamed}
 
 -- ---- chunks
 pub fed_chunks : (s : St) (a b : List ℕ) → fed s (a ++ b) ≡ fed (fed s a) b
@@ -98,17 +99,17 @@ go (b ∷ s) m n u f = step b s m n u f (go s) (ℕ_discrete b LF)
 
 -- the whole output, of the whole input
 pub agree : (s : List ℕ) → text start s ++ finish (fed start s) ≡ output s
-agree s = go s none 0 [] tt
+agree s = go s None 0 [] tt
 
 -- THE PROGRAM'S OUTPUT IS THE DEFINITION'S, however the input is cut into chunks
-streamed_on : (s : St) (cs : List (List ℕ)) → streamed s cs ≡ text s (flat cs) ++ finish (fed s (flat cs))
+streamed_on : (s : St) (cs : List (List ℕ)) → streamed s cs ≡ text s (concat cs) ++ finish (fed s (concat cs))
 unfolding streamed text fed
 streamed_on s [] = refl
 streamed_on s (c ∷ cs) =
     ap (λ (t : List ℕ). text s c ++ t) (streamed_on (fed s c) cs)
-    ∙ sym (append_assoc (text s c) (text (fed s c) (flat cs)) (finish (fed (fed s c) (flat cs))))
-    ∙ ap (λ (t : List ℕ). t ++ finish (fed (fed s c) (flat cs))) (sym (text_chunks s c (flat cs)))
-    ∙ ap (λ (r : St). text s (c ++ flat cs) ++ finish r) (sym (fed_chunks s c (flat cs)))
+    ∙ sym (append_assoc (text s c) (text (fed s c) (concat cs)) (finish (fed (fed s c) (concat cs))))
+    ∙ ap (λ (t : List ℕ). t ++ finish (fed (fed s c) (concat cs))) (sym (text_chunks s c (concat cs)))
+    ∙ ap (λ (r : St). text s (c ++ concat cs) ++ finish r) (sym (fed_chunks s c (concat cs)))
 
-pub agree_chunks : (cs : List (List ℕ)) → streamed start cs ≡ output (flat cs)
-agree_chunks cs = streamed_on start cs ∙ agree (flat cs)
+pub agree_chunks : (cs : List (List ℕ)) → streamed start cs ≡ output (concat cs)
+agree_chunks cs = streamed_on start cs ∙ agree (concat cs)

@@ -1,5 +1,3 @@
-pub mod Answering
-pub mod Lines
-pub mod Laws
 pub mod Agree
 pub mod One
+pub mod Made

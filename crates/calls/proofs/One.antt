@@ -2,11 +2,8 @@
 -- equations; what `feed` puts and what the rest of its chunk will put is together one text.) Assumes nothing.
 use mathlib.Core.Path.{◌≡◌, sym, ◌∙◌}
 use Rattle.lines.specs.declared.Line.{Line}
-use Rattle.lines.specs.Shown.{told}
-use Rattle.calls.specs.declared.current.Current.{Current}
-use Rattle.calls.specs.declared.current.Answered.{Answered}
-use Rattle.calls.specs.Model.{meaning, Steps}
+use Rattle.model.specs.Queue.{Ans}
+use Rattle.calls.specs.Model.{Held, Steps}
 
-pub answer_one : (k : Current) (l : Line) (r t : Answered) → Steps k l r → Steps k l t
-    → (told r.answer ≡ told t.answer) × (meaning r.current ≡ meaning t.current)
-answer_one k l r t p q = (p.reply ∙ sym q.reply, p.next ∙ sym q.next)
+pub answer_one : (h : Held) (l : Line) {h' h'' : Held} {a b : Ans} → Steps h l h' a → Steps h l h'' b → (a ≡ b) × (h' ≡ h'')
+answer_one h l x y = (x.reply ∙ sym y.reply, x.next ∙ sym y.next)

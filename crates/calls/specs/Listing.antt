@@ -2,9 +2,10 @@
 -- that cannot be read, on a last line without LF and on empty input, each by an example. Assumes nothing.
 use Rattle.std.specs.Prelude.{ℕ, ◌≡◌, refl, List, [], ◌∷◌, ◌++◌}
 use Prim.Native.String.{String}
-use Rattle.lines.specs.Text.{LF, number, rest, words}
+use Rattle.lines.specs.Text.{LF, number, rest}
 use Rattle.lines.specs.Rows.{bytes, table, place, read, said, parsed}
-use Rattle.lines.specs.Shown.{digits, shown}
+use Rattle.std.specs.Fmt.{digits}
+use Rattle.lines.specs.Shown.{shown}
 use Rattle.model.specs.Calls.{make, make_u, step, try_send, try_res, open_out, open_in, poll_out, permit_send, try_recv, poll_in, drop_s, drop_r, status}
 use Rattle.calls.specs.Whole.{lines_of, answers, output}
 
@@ -49,7 +50,7 @@ pub listing :
     ∷ "14 12 - - -"
     ∷ "15 0 0 - -"
     ∷ [])
-unfolding lines_of answers number rest words table place read said parsed digits shown make step try_send open_out open_in poll_out permit_send try_recv poll_in drop_s drop_r status
+unfolding lines_of answers number rest table place read said parsed digits shown make step try_send open_out open_in poll_out permit_send try_recv poll_in drop_s drop_r status
 listing = refl
 
 -- before the first good make a call answers 21; a refused make keeps the queue before it; a good one begins a new queue
@@ -66,7 +67,7 @@ pub makes :
     ∷ "8 0 - - -"
     ∷ "9 4 0,8,0,0,0,0 - -"
     ∷ [])
-unfolding lines_of answers number rest words table place read said parsed digits shown make step try_send status
+unfolding lines_of answers number rest table place read said parsed digits shown make step try_send status
 makes = refl
 
 -- make-u begins an unbounded queue: its free room is shown as `-`, and nothing is reserved there
@@ -87,7 +88,7 @@ pub unbounded :
     ∷ "12 0 - - -"
     ∷ "13 4 0,-,0,0,0,0 - -"
     ∷ [])
-unfolding lines_of answers number rest words table place read said parsed digits shown make make_u step try_send try_res open_out try_recv status
+unfolding lines_of answers number rest table place read said parsed digits shown make make_u step try_send try_res open_out try_recv status
 unbounded = refl
 
 -- 24, and reading goes on
@@ -104,7 +105,7 @@ pub bad_lines :
     ∷ "8 24 - - -"
     ∷ "9 21 - - -"
     ∷ [])
-unfolding lines_of answers number rest words table place read said parsed digits shown
+unfolding lines_of answers number rest table place read said parsed digits shown
 bad_lines = refl
 
 -- empty input prints nothing

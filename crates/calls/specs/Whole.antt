@@ -1,6 +1,6 @@
 -- What the call program writes, as a function of what it reads. Assumes nothing.
 use Rattle.std.specs.Prelude.{ℕ, ◌+◌, List, [], ◌∷◌, ◌++◌, cond, eqb}
-use Rattle.std.proofs.Math.Option.{none}
+use Rattle.std.specs.Prelude.{None}
 use Rattle.lines.specs.Text.{LF}
 use Rattle.lines.specs.Rows.{parsed}
 use Rattle.lines.specs.Shown.{shown}
@@ -26,4 +26,4 @@ answers h n (l ∷ ls) = answer h (n + 1) l ++ answers (next_of h (parsed l)) (n
 
 -- THE WHOLE OUTPUT: at first there is no queue
 abbrev pub output : List ℕ → List ℕ
-output s = answers none 0 (lines_of s)
+output s = answers None 0 (lines_of s)

@@ -1,179 +1,131 @@
 // The queue's answer in the form that is shown.
-ghost use Rattle.std.specs.Prelude.{◌≡◌, min, [], ◌∷◌};
-ghost use Rattle.lines.specs.Shown.{told, Counted};
-ghost use Rattle.model.specs.Queue as model;
-ghost use Rattle.side.specs.Meaning.{carried, token_list};
-ghost use Rattle.queue.specs.declared.What.TheVariants.{Status};
+ghost use Rattle.std.specs.Prelude.{◌≡◌, Ok, option_to_list};
+ghost use Rattle.lines.specs.Shown.{answered, told};
+ghost use Rattle.model.specs.Queue.{Ans};
+ghost use Rattle.wakes.specs.Tokens.{tokens_of};
+ghost use Rattle.queue.specs.declared.Success.TheVariants.{Status};
 ghost use Rattle.queue.specs.Answers.{code_of, field_of, ans_of};
 ghost use Rattle.calls.specs.Model.{bare};
-ghost use Rattle.calls.specs.Answers.{Says, LetGo};
 
-use queue::{Counts, Room, What};
-use side::{Cargo, OptToken};
+use arrayvec::ArrayVec;
+use queue::{Counts, Error, Success};
+use std::marker::Model;
+use wakes::Wakes;
 
-// The numbers of an answer's field: the first n of the array.
-#[derive(Clone, Copy)]
-pub struct Field {
-    pub all: [u32; 6],
-    pub n: usize,
+// An answer in numbers: its code, its field, the tokens to be woken, and the token that was let go of.
+#[derive(Drop)]
+pub struct Reply {
+    code: u32,
+    field: ArrayVec<u32, 6>,
+    wakes: Wakes,
+    retired: Option<u32>,
 }
 
-// The token that was let go of, if any.
-#[derive(Clone, Copy)]
-pub struct Gone {
-    pub all: [u32; 1],
-    pub n: usize,
+impl Model for Reply {
+    ghost Value = { Ans };
+
+    ghost view = { λ r. answered r.code r.field.items (tokens_of r.wakes) (option_to_list r.retired) };
 }
 
-// No number, one, or status's counts.
-fn none() -> Field
-    ensures { Says result [] }
+// Status's counts. An unbounded queue has no free room to show: five numbers.
+fn counts(counts: Counts) -> ArrayVec<u32, 6>
+    ensures { result.items ≡ field_of (Ok (Status counts)) }
 {
-    Field {
-        all: [0u32; 6],
-        n: 0,
+    let mut field = ArrayVec::new();
+    field.push(counts.queued);
+    if let Some(room) = counts.free {
+        field.push(room);
     }
+    field.push(counts.permits);
+    field.push(counts.granted);
+    field.push(counts.lined);
+    field.push(counts.waiting);
+    field
 }
 
-fn one(v: u32) -> Field
-    ensures { Says result (v ∷ []) }
+// No number, or one.
+fn number(value: Option<u32>) -> ArrayVec<u32, 6>
+    ensures { result.items ≡ option_to_list value }
 {
-    Field {
-        all: [v, 0, 0, 0, 0, 0],
-        n: 1,
+    let mut field = ArrayVec::new();
+    if let Some(value) = value {
+        field.push(value);
     }
-}
-
-// An unbounded queue has no free room to show: five numbers.
-fn counts(c: Counts) -> Field
-    ensures { Says result (field_of (Status c)) }
-{
-    let free = c.free;
-    match free {
-        Room::Slots(room) => Field {
-            all: [c.queued, room, c.permits, c.granted, c.lined, c.waiting],
-            n: 6,
-        },
-        Room::Unbounded => Field {
-            all: [c.queued, c.permits, c.granted, c.lined, c.waiting, 0],
-            n: 5,
-        },
-    }
-}
-
-// The value that is handed back, if there is one.
-fn cargo(c: Cargo) -> Field
-    ensures { Says result (model.cargo (carried c)) }
-{
-    match c {
-        Cargo::Nothing => none(),
-        Cargo::Value(v) => one(v),
-    }
+    field
 }
 
 // The code of an answer.
-pub(crate) fn code(what: What) -> u32
+fn code(what: Result<Success, Error>) -> u32
     ensures { result ≡ code_of what }
 {
     match what {
-        What::Done => 0,
-        What::Discarded(_) => 0,
-        What::Value(_) => 1,
-        What::Given(_) => 2,
-        What::Pending => 3,
-        What::Status(_) => 4,
-        What::Full(_) => 10,
-        What::Empty => 11,
-        What::Disconnected(_) => 12,
-        What::BadCapacity => 20,
-        What::NoHandle => 21,
-        What::Closed => 26,
-        What::InUse => 22,
-        What::NoRoom => 23,
-        What::RingFull => 25,
-        What::WrongKind => 28,
+        Ok(Success::Done | Success::Discarded(_)) => 0,
+        Ok(Success::Value(_)) => 1,
+        Ok(Success::Given(_)) => 2,
+        Ok(Success::Pending) => 3,
+        Ok(Success::Status(_)) => 4,
+        Err(Error::Full(_)) => 10,
+        Err(Error::Empty) => 11,
+        Err(Error::Disconnected(_)) => 12,
+        Err(Error::BadCapacity) => 20,
+        Err(Error::NoHandle) => 21,
+        Err(Error::InUse) => 22,
+        Err(Error::NoRoom) => 23,
+        Err(Error::RingFull) => 25,
+        Err(Error::Closed) => 26,
+        Err(Error::WrongKind) => 28,
     }
 }
 
 // The numbers of its field.
-fn numbers(what: What) -> Field
-    ensures { Says result (field_of what) }
+fn numbers(what: Result<Success, Error>) -> ArrayVec<u32, 6>
+    ensures { result.items ≡ field_of what }
 {
     match what {
-        What::Done => none(),
-        What::Discarded(n) => one(n),
-        What::Value(v) => one(v),
-        What::Given(n) => one(n),
-        What::Pending => none(),
-        What::Status(c) => counts(c),
-        What::Full(c) => cargo(c),
-        What::Empty => none(),
-        What::Disconnected(c) => cargo(c),
-        What::BadCapacity => none(),
-        What::NoHandle => none(),
-        What::Closed => none(),
-        What::InUse => none(),
-        What::NoRoom => none(),
-        What::RingFull => none(),
-        What::WrongKind => none(),
+        Ok(Success::Discarded(n) | Success::Value(n) | Success::Given(n)) => number(Some(n)),
+        Ok(Success::Status(shown)) => counts(shown),
+        Err(Error::Full(value) | Error::Disconnected(value)) => number(value),
+        _ => number(None),
     }
 }
 
-// The token that goes back with it.
-fn retired(token: OptToken) -> Gone
-    ensures { LetGo result (token_list token) }
-{
-    match token {
-        OptToken::NoToken => Gone {
-            all: [0u32; 1],
-            n: 0,
-        },
-        OptToken::Token(t) => Gone { all: [t], n: 1 },
+// The queue's answer.
+impl From<queue::Answer> for Reply {
+    ghost from_gives = { λ answer reply. reply ≡ ans_of answer };
+
+    fn from(answer: queue::Answer) -> Reply {
+        Reply {
+            code: code(answer.what),
+            field: numbers(answer.what),
+            wakes: answer.wakes,
+            retired: answer.retired,
+        }
     }
 }
 
-// The queue says which tokens are to be woken, in an array of 32: a count past its end would mean its end.
-fn within(n: usize) -> usize
-    ensures { result ≡ min n 32 }
-{
-    if n < 32 { n } else { 32 }
-}
-
-// The queue's answer, to be shown.
-pub(crate) fn shown(a: queue::Answer) -> lines::Answer
-    ensures { (told result ≡ ans_of a) × Counted result }
-{
-    let what = a.what;
-    let token = a.retired;
-    let wakes = a.wakes;
-    let tokens = wakes.tokens;
-    let n = wakes.n;
-    let f = numbers(what);
-    let values = f.all;
-    let g = retired(token);
-    let gone = g.all;
-    lines::Answer {
-        code: code(what),
-        field: values,
-        fields: f.n,
-        wakes: tokens,
-        woken: within(n),
-        retired: gone,
-        gone: g.n,
+impl Reply {
+    // An answer with a code alone.
+    pub(crate) fn bare(code: u32) -> Reply
+        ensures { result ≡ bare code }
+    {
+        Reply {
+            code,
+            field: ArrayVec::new(),
+            wakes: Wakes::none(),
+            retired: None,
+        }
     }
-}
 
-// An answer with a code alone.
-pub(crate) fn bare_answer(code: u32) -> lines::Answer
-    ensures { (told result ≡ bare code) × Counted result }
-{
-    lines::Answer {
-        code: code,
-        field: [0u32; 6],
-        fields: 0,
-        wakes: [0u32; 32],
-        woken: 0,
-        retired: [0u32; 1],
-        gone: 0,
+    // The answer, to be shown.
+    #[tactic(auto, unfolding(wakes::specs::Tokens::tokens_of))]
+    pub(crate) fn shown(&self) -> lines::Answer<'_>
+        ensures { told result ≡ self.now }
+    {
+        lines::Answer {
+            code: self.code,
+            field: self.field.as_slice(),
+            wakes: self.wakes.as_slice(),
+            retired: self.retired,
+        }
     }
 }

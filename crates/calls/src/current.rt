@@ -1,100 +1,82 @@
 // The queue that the lines speak to, and what a line does to it.
-ghost use Rattle.std.specs.Prelude.{◌≡◌};
-ghost use Rattle.std.proofs.Math.Option.{none};
+ghost use Rattle.std.specs.Prelude.{◌≡◌, None, IfSome};
+ghost use Rattle.std.specs.Option.{option_map};
 ghost use Rattle.lines.specs.declared.Line.TheVariants as Line;
-ghost use Rattle.calls.specs.Model.{Kept, Took, Steps, meaning};
+ghost use Rattle.queue.specs.Meaning.{queue_of, Sound};
+ghost use Rattle.calls.specs.Model.{Held, Steps};
 
-use crate::answers::{bare_answer, code, shown};
+use crate::answers::Reply;
 use lines::Line;
-use queue::{Queue, Turn};
+use queue::Queue;
+use std::marker::Model;
 
-// Before the first good make there is no queue: `live` is false, and `queue` is the fixed record beside a refused make.
-#[derive(Clone, Copy)]
+// The codes of the two answers that no queue gives.
+const NO_HANDLE: u32 = 21;
+
+const BAD_LINE: u32 = 24;
+
+// Before the first good make there is none.
+#[derive(Drop)]
 pub struct Current {
-    pub live: bool,
-    pub queue: Queue,
+    queue: Option<Queue>,
 }
 
-#[derive(Clone, Copy)]
-pub struct Answered {
-    pub answer: lines::Answer,
-    pub current: Current,
-}
+impl Model for Current {
+    ghost Value = { Held };
 
-// A turn's answer to be shown, and its queue, which is now the current one. A new queue and the queue after a call both come this way, in one
-// function of its own: the compiler then copies them as a whole, and not place by place as it makes a new one.
-fn took(turn: Turn) -> Answered
-    ensures { Took turn result }
-{
-    let said = turn.answer;
-    let next = turn.queue;
-    Answered {
-        answer: shown(said),
-        current: Current {
-            live: true,
-            queue: next,
-        },
-    }
+    ghost view = { λ k. option_map queue_of k.queue };
+
+    ghost invariant = { λ k. IfSome k.queue Sound };
 }
 
 impl Current {
     // Before the first good make.
     pub(crate) fn nothing() -> Current
-        ensures { Kept result × (meaning result ≡ none) }
+        ensures { result ≡ None }
     {
-        let refused = Queue::make(0);
-        let queue = refused.queue;
-        Current {
-            live: false,
-            queue: queue,
-        }
+        Current { queue: None }
     }
 
-    // What a line does.
-    pub(crate) fn answer(self, line: Line) -> Answered
-        requires { Kept self }
-        ensures { Steps self line result }
+    // What a line does, and the answer to it. The queue is written where it stands, and not copied out and in again.
+    #[tactic(auto, unfolding(model::specs::Calls::make_u))]
+    pub(crate) fn answer(&mut self, line: Line) -> Reply
+        ensures { Steps self.old line self.new result }
     {
         match line {
-            Line::Bad => Answered {
-                answer: bare_answer(24),
-                current: self,
-            },
+            Line::Bad => Reply::bare(BAD_LINE),
             Line::Make(capacity) => self.make(capacity),
-            Line::MakeU => took(Queue::make_u()),
+            Line::MakeU => {
+                let turn = Queue::make_u();
+                self.queue = Some(turn.queue);
+                Reply::from(turn.answer)
+            }
             Line::Call(call) => self.call(call),
         }
     }
 
     // A good make begins a new queue; a refused one keeps the queue before it.
-    fn make(self, capacity: u32) -> Answered
-        requires { Kept self }
-        ensures { Steps self (Line.Make capacity) result }
+    #[tactic(auto, using(crate::proofs::Made::made_is_ok))]
+    fn make(&mut self, capacity: u32) -> Reply
+        ensures { Steps self.old (Line.Make capacity) self.new result }
     {
         let turn = Queue::make(capacity);
-        let said = turn.answer;
-        let what = said.what;
-        if code(what) == 0 {
-            return took(turn);
+        if turn.answer.what.is_ok() {
+            self.queue = Some(turn.queue);
         }
-        Answered {
-            answer: shown(said),
-            current: self,
-        }
+        Reply::from(turn.answer)
     }
 
     // Any other call: of the queue, or refused where there is none.
-    fn call(self, call: model::Call) -> Answered
-        requires { Kept self }
-        ensures { Steps self (Line.Call call) result }
+    fn call(&mut self, call: model::Call) -> Reply
+        ensures { Steps self.old (Line.Call call) self.new result }
     {
-        if self.live {
-            let queue = self.queue;
-            return took(queue.step(call));
-        }
-        Answered {
-            answer: bare_answer(21),
-            current: self,
+        match &mut self.queue {
+            Some(queue) => {
+                let turn = queue.step(call);
+                *queue = turn.queue;
+                Reply::from(turn.answer)
+            }
+            None => Reply::bare(NO_HANDLE),
         }
     }
 }

@@ -1,91 +1,105 @@
--- Laws of the definitions of `specs/Text.antt` that the proofs cite. Assumes nothing.
-use Prim.Native.Nat.{ℕ, ◌+◌, ◌-◌, ◌*◌, ◌<◌, ◌≤◌}
-use mathlib.Core.Path.{◌≡◌, refl}
+-- Laws of the numbers of `specs/Text.antt`. Assumes nothing.
+use Prim.Native.Nat.{ℕ, ◌+◌, ◌-◌, ◌*◌, ◌^◌, ◌<◌, zero-le}
+use mathlib.Core.Path.{◌≡◌, refl, sym, ◌∙◌}
 use mathlib.Core.List.{List, [], ◌∷◌}
-use mathlib.Core.Bool.{Bool, true, false, cond}
+use mathlib.Core.Bool.{Bool, true, false, cond, ◌&&◌}
 use native.Mathlib.Omega.{arith}
 use native.Mathlib.Decide.{dec_lt}
-use native.Mathlib.Numerals.{add-one}
-use lib.ListN.{length, get_or, drop, drop_of_length-le}
-use lib.Seq.{drop-cons}
-use borrow.Author.Tests.{le-leb, lt-leb, eq-eqb, ne_eqb}
-use Rattle.lines.specs.declared.text.Num.TheVariants.{Is, Bad}
-use Rattle.lines.specs.Text.{space, digit, rest, number, spaces}
+use mathlib.Core.Logic.{◌≢◌}
+use lib.ListN.{length, get_or}
+use lib.Dec.{leb}
+use borrow.Author.Tests.{ne_eqb, lt-leb, le-leb}
+use Rattle.std.proofs.Common.{rules}
+use Rattle.std.specs.Prelude.{Option, None, Some, Result, Ok, Err}
+use Rattle.std.specs.Char.{is_ascii_digit}
+use Rattle.std.specs.Str.{all_ascii_digits}
+use Rattle.std.specs.Str.Parse.{ParsesUnsigned}
+use Rattle.std.specs.Result.{OkIff, result_ok}
+use Rattle.std.proofs.lemmas.Str.Parse.{IsNumeralModel, numerals_by_fold, tells_all_ascii_digits, parse_plain, not_in_digits}
+use Rattle.lines.specs.Text.{rest, leads, number}
 
--- ---- numbers
-pub digit_yes : (c : ℕ) → 48 ≤ c → c ≤ 57 → digit c ≡ true
-digit_yes c l h = simp (le-leb 48 c l, le-leb c 57 h)
+-- what digits say behind a
+abbrev pub value : ℕ → List ℕ → ℕ
+value a [] = a
+value a (c ∷ s) = value (a * 10 + (c - 48)) s
 
-pub digit_low : (c : ℕ) → c < 48 → digit c ≡ false
-digit_low c l = simp (lt-leb 48 c l)
+pub own : IsNumeralModel (λ ds. all_ascii_digits ds ≡ true) (value 0)
+own = numerals_by_fold _ tells_all_ascii_digits value (search rules)
 
-pub digit_high : (c : ℕ) → 57 < c → digit c ≡ false
-digit_high c h = simp (le-leb 48 c (omega arith), lt-leb c 57 h)
+abbrev pub limited : ℕ → ℕ → Option ℕ
+limited most n = cond (leb n most) (Some n) None
 
-either : {A : Type 0} (b : Bool) (x y : A) → x ≡ y → cond b x y ≡ y
-either true x y e = e
-either false x y e = refl
-
--- past the limit a number stays past it
-pub rest_over : (most a : ℕ) (s : List ℕ) → most < a → rest most a s ≡ Bad
+rest_is : (most a : ℕ) (s : List ℕ) → rest most a s ≡ cond (all_ascii_digits s) (limited most (value a s)) None
 unfolding rest
-rest_over most a [] h = simp (lt-leb a most h)
-rest_over most a (c ∷ s) h = either (digit c) (rest most (a * 10 + (c - 48)) s) Bad (rest_over most (a * 10 + (c - 48)) s (omega arith))
+rest_is most a [] = refl
+rest_is most a (c ∷ s) = by (is_ascii_digit c) (rest_is most (a * 10 + (c - 48)) s)
+  where
+    by : (b : Bool) → rest most (a * 10 + (c - 48)) s ≡ cond (all_ascii_digits s) (limited most (value (a * 10 + (c - 48)) s)) None
+        → cond b (rest most (a * 10 + (c - 48)) s) None ≡ cond (b && all_ascii_digits s) (limited most (value (a * 10 + (c - 48)) s)) None
+    by true e = e
+    by false e = refl
 
-module _ (most a : ℕ) (w : List ℕ) (i : ℕ) (h : i < length w) where
-  pub rest_digit : digit (get_or w i 0) ≡ true → rest most a (drop i w) ≡ rest most (a * 10 + (get_or w i 0 - 48)) (drop (i + 1) w)
-  unfolding rest
-  rest_digit d = rw (add-one, drop-cons w i 0 h, d)
+pub leads_by : (w : List ℕ) → 0 < length w → (get_or w 0 0 ≡ 48 → ⊥) → leads w ≡ true
+leads_by [] z f = absurd (omega arith)
+leads_by (c ∷ []) z f = refl
+leads_by (c ∷ d ∷ w) z f = rw (ne_eqb c 48 f)
 
-  pub rest_other : digit (get_or w i 0) ≡ false → rest most a (drop i w) ≡ Bad
-  unfolding rest
-  rest_other d = rw (drop-cons w i 0 h, d)
+pub number_is : (most : ℕ) (w : List ℕ) → 0 < length w → (get_or w 0 0 ≡ 48 → ⊥) → number most w ≡ cond (all_ascii_digits w) (limited most (value 0 w)) None
+unfolding number
+number_is most w z f = rw (leads_by w z f) (rest_is most 0 w)
 
-pub rest_end : (most a : ℕ) (w : List ℕ) (i : ℕ) → a ≤ most → length w ≤ i → rest most a (drop i w) ≡ Is a
-unfolding rest
-rest_end most a w i l h = rw (drop_of_length-le w h, le-leb a most l)
+-- a plus is no digit, and a `0` stands alone
+pub number_plus : (most : ℕ) (w : List ℕ) → get_or w 0 0 ≡ 43 → number most w ≡ None
+unfolding number rest
+number_plus most [] e = refl
+number_plus most (c ∷ []) e = rw e
+number_plus most (c ∷ d ∷ w) e = rw e
 
-pub number_none : (most : ℕ) (w : List ℕ) → length w ≡ 0 → number most w ≡ Bad
+pub number_zero : (most : ℕ) (w : List ℕ) → get_or w 0 0 ≡ 48 → length w ≡ 1 → number most w ≡ Some 0
+unfolding number rest
+number_zero most [] e l = absurd (omega arith)
+number_zero most (c ∷ []) e l = rw (e, le-leb 0 most zero-le)
+number_zero most (c ∷ d ∷ w) e l = absurd (omega arith)
+
+pub number_zeros : (most : ℕ) (w : List ℕ) → get_or w 0 0 ≡ 48 → (length w ≡ 1 → ⊥) → number most w ≡ None
+unfolding number rest
+number_zeros most [] e l = refl
+number_zeros most (c ∷ []) e l = absurd (l refl)
+number_zeros most (c ∷ d ∷ w) e l = rw e
+
+pub number_none : (most : ℕ) (w : List ℕ) → length w ≡ 0 → number most w ≡ None
 unfolding number
 number_none most [] e = refl
 number_none most (c ∷ w) e = absurd (omega arith)
 
-pub number_zero : (most : ℕ) (w : List ℕ) → 1 < length w → get_or w 0 0 ≡ 48 → number most w ≡ Bad
-unfolding number
-number_zero most [] l e = refl
-number_zero most (c ∷ []) l e = absurd (omega arith)
-number_zero most (c ∷ d ∷ w) l e = simp (eq-eqb c 48 e)
+-- what `parse` reads where neither stands in front
+module _ (w : List ℕ) (zero : get_or w 0 0 ≡ 48 → ⊥) where
+  refused : ((all_ascii_digits w ≡ true) × (0 < length w) × (value 0 w < 2 ^ 32) → ⊥) → number 4294967295 w ≡ None
+  refused n = by (dec_lt 0 (length w)) (all_ascii_digits w) refl (dec_lt (value 0 w) (2 ^ 32))
+    where
+      by : Dec (0 < length w) → (b : Bool) → all_ascii_digits w ≡ b → Dec (value 0 w < 2 ^ 32) → number 4294967295 w ≡ None
+      by (no z) b d v = number_none 4294967295 w (omega arith)
+      by (yes z) false d v = number_is 4294967295 w z zero ∙ rw d
+      by (yes z) true d (yes v) = absurd (n (d, z, v))
+      by (yes z) true d (no v) = number_is 4294967295 w z zero ∙ rw (d, lt-leb (value 0 w) 4294967295 (omega arith))
 
-pub number_long : (most : ℕ) (w : List ℕ) → 1 < length w → (get_or w 0 0 ≡ 48 → ⊥) → number most w ≡ rest most 0 w
-unfolding number
-number_long most [] l e = absurd (omega arith)
-number_long most (c ∷ []) l e = absurd (omega arith)
-number_long most (c ∷ d ∷ w) l e = simp (ne_eqb c 48 e)
+  parsed_by : {E : Type 0} (r : Result ℕ E) → OkIff r ((all_ascii_digits w ≡ true) × (0 < length w) × (value 0 w < 2 ^ 32)) (value 0 w) → result_ok r ≡ number 4294967295 w
+  parsed_by (Ok x) o = sym (number_is 4294967295 w o.0.1 zero ∙ rw (o.0.0, le-leb (value 0 w) 4294967295 (omega arith), o.1))
+  parsed_by (Err e) o = sym (refused o)
 
-pub number_one : (most : ℕ) (w : List ℕ) → (length w ≡ 0 → ⊥) → length w ≤ 1 → number most w ≡ rest most 0 w
-unfolding number
-number_one most [] n l = absurd (n refl)
-number_one most (c ∷ []) n l = refl
-number_one most (c ∷ d ∷ w) n l = absurd (omega arith)
+  pub number_parsed : {E : Type 0} (r : Result ℕ E) → ParsesUnsigned 32 10 w r → (get_or w 0 0 ≡ 43 → ⊥) → result_ok r ≡ number 4294967295 w
+  number_parsed r h plus = parsed_by r (parse_plain own 32 w r h plus)
 
--- the two together: what is not empty, and has no `0` before another byte, is what its bytes say
-pub number_starts : (most : ℕ) (w : List ℕ) → (length w ≡ 0 → ⊥) → (1 < length w → get_or w 0 0 ≡ 48 → ⊥) → number most w ≡ rest most 0 w
-number_starts most w n z = by (dec_lt 1 (length w))
+-- a number's bytes are digits
+pub number_digits : (most : ℕ) (w : List ℕ) (v : ℕ) → number most w ≡ Some v → all_ascii_digits w ≡ true
+unfolding number
+number_digits most w v e = by (leads w) (all_ascii_digits w) (rest_is most 0 w) e
   where
-    by : Dec (1 < length w) → number most w ≡ rest most 0 w
-    by (yes l) = number_long most w l (z l)
-    by (no g) = number_one most w n (omega arith)
+    by : (l b : Bool) → rest most 0 w ≡ cond b (limited most (value 0 w)) None → cond l (rest most 0 w) None ≡ Some v → b ≡ true
+    by l true r e = refl
+    by true false r e = cc
+    by false false r e = cc
 
--- ---- spaces
-module _ (s : List ℕ) (i : ℕ) (h : i < length s) where
-  pub spaces_more : get_or s i 0 ≡ space → spaces (drop i s) ≡ spaces (drop (i + 1) s) + 1
-  unfolding spaces
-  spaces_more e = rw (add-one i, drop-cons s i 0 h, eq-eqb (get_or s i 0) space e, add-one)
-
-  pub spaces_same : (get_or s i 0 ≡ space → ⊥) → spaces (drop i s) ≡ spaces (drop (i + 1) s)
-  unfolding spaces
-  spaces_same e = rw (add-one, drop-cons s i 0 h, ne_eqb (get_or s i 0) space e)
-
-pub spaces_end : (s : List ℕ) (i : ℕ) → length s ≤ i → spaces (drop i s) ≡ 0
-unfolding spaces
-spaces_end s i h = rw (drop_of_length-le s h)
+-- so none is a space
+pub number_unspaced : (most : ℕ) (w : List ℕ) (v : ℕ) → number most w ≡ Some v → (i : ℕ) → i < length w → get_or w i 0 ≢ 32
+number_unspaced most w v e = not_in_digits own w 32 (number_digits most w v e) (λ r. omega arith)

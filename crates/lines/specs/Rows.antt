@@ -1,9 +1,7 @@
 -- What a line says: the table of the calls, a row for each name and number of numbers. A new call is a new row. Assumes nothing.
-use Rattle.std.specs.Prelude.{ℕ, zero, suc, ◌-◌, List, [], ◌∷◌, ◌++◌, Bool, true, false, cond, ◌&&◌, length, get_or, replicate, eqb, ltb}
+use Rattle.std.specs.Prelude.{ℕ, zero, suc, List, [], ◌∷◌, Bool, cond, ◌&&◌, length, get_or, eqb, ltb, bytes_eq, Option, None, Some}
 use Prim.Native.Char.{code}
 use Prim.Native.String.{String, [] as ε, ◌∷◌ as ◌▸◌}
-use Rattle.lines.specs.declared.text.Num.{Num}
-use Rattle.lines.specs.declared.text.Num.TheVariants.{Is, Bad}
 use Rattle.model.specs.declared.Call.TheVariants as Call
 use Rattle.lines.specs.declared.Line.{Line}
 use Rattle.lines.specs.Text.{number, words}
@@ -55,10 +53,6 @@ table =
     ∷ row "status" none (λ n. Line.Call Call.Status)
     ∷ []
 
--- how many rows there are
-abbrev pub row_count : ℕ
-row_count = 20
-
 -- what stands past the table's end: any line of it is bad
 abbrev pub no_row : Row
 no_row = record { name = []; most = []; means = λ n. Line.Bad }
@@ -66,49 +60,34 @@ no_row = record { name = []; most = []; means = λ n. Line.Bad }
 abbrev pub row_at : ℕ → Row
 row_at k = get_or table k no_row
 
--- the table as the code keeps it: of each row how many numbers there are, the name's length, the name, and zeros up to thirteen bytes
-abbrev pub flatten : List Row → List ℕ
-flatten [] = []
-flatten (r ∷ rs) = length r.most ∷ (length r.name ∷ (r.name ++ (replicate (11 - length r.name) 0 ++ flatten rs)))
-
-unfoldable pub flat : List ℕ
-flat = flatten table
-
--- are two texts the same
-abbrev pub same : List ℕ → List ℕ → Bool
-same [] [] = true
-same [] (b ∷ t) = false
-same (a ∷ s) [] = false
-same (a ∷ s) (b ∷ t) = eqb a b && same s t
-
 -- is it this row's line: the name w with n numbers
 abbrev pub fits : List ℕ → ℕ → Row → Bool
-fits w n r = same r.name w && eqb (length r.most) n
+fits w n r = bytes_eq r.name w && eqb (length r.most) n
 
 -- the place of the first row that fits, or the table's length
 unfoldable pub place : List Row → List ℕ → ℕ → ℕ
 place [] w n = zero
 place (r ∷ rs) w n = cond (fits w n r) zero (suc (place rs w n))
 
+-- what a name with these numbers behind it means
+abbrev pub meaning : List ℕ → List ℕ → Line
+meaning w ns = (row_at (place table w (length ns))).means (λ i. get_or ns i 0)
+
 -- the numbers that the words say, each within its limit
-pub data Nums : Type 0 where
-  bad : Nums
-  nums : List ℕ → Nums
+abbrev pub push : Option ℕ → Option (List ℕ) → Option (List ℕ)
+push None ns = None
+push (Some v) None = None
+push (Some v) (Some vs) = Some (v ∷ vs)
 
-abbrev pub push : Num → Nums → Nums
-push Bad ns = bad
-push (Is v) bad = bad
-push (Is v) (nums vs) = nums (v ∷ vs)
-
-unfoldable pub read : List ℕ → List (List ℕ) → Nums
-read [] [] = nums []
-read [] (w ∷ ws) = bad
-read (m ∷ ms) [] = bad
+unfoldable pub read : List ℕ → List (List ℕ) → Option (List ℕ)
+read [] [] = Some []
+read [] (w ∷ ws) = None
+read (m ∷ ms) [] = None
 read (m ∷ ms) (w ∷ ws) = push (number m w) (read ms ws)
 
-abbrev pub line : Row → Nums → Line
-line r bad = Line.Bad
-line r (nums vs) = r.means (λ i. get_or vs i 0)
+abbrev pub line : Row → Option (List ℕ) → Line
+line r None = Line.Bad
+line r (Some vs) = r.means (λ i. get_or vs i 0)
 
 unfoldable pub said : List (List ℕ) → Line
 said [] = Line.Bad

@@ -5,13 +5,14 @@ use Rattle.model.specs.Side.{called_count, polled_count}
 use Rattle.model.specs.Queue.{Queue, slots, unbounded}
 use Rattle.model.specs.Calls.{status}
 use Rattle.lines.specs.declared.Line.TheVariants as Line
-use Rattle.lines.specs.Text.{dash, LF, words}
+use Rattle.lines.specs.Text.{dash, LF}
 use Rattle.lines.specs.Rows.{bytes, table, place, read, said, parsed}
-use Rattle.lines.specs.Shown.{digits, dec, decs, joined, field_text, answered, shown}
+use Rattle.std.specs.Fmt.{decimal}
+use Rattle.lines.specs.Shown.{digits, decs, joined, field_text, answered, shown}
 
 -- make-u stands alone: with a number or a space behind it, or as the beginning of a longer name, it cannot be read; and make is not make-u
 pub makes : map (λ l. parsed (bytes l)) ("make-u" ∷ "make-u 3" ∷ "make-u " ∷ "make-u8" ∷ "make" ∷ []) ≡ Line.MakeU ∷ Line.Bad ∷ Line.Bad ∷ Line.Bad ∷ Line.Make 8 ∷ []
-unfolding words table place read said parsed
+unfolding table place read said parsed
 makes = refl
 
 -- the counts of any queue's status that stand behind its free room
@@ -26,7 +27,7 @@ pub status_bounded : (q : Queue) (f : ℕ) → q.free ≡ slots f → status_tex
 unfolding status
 status_bounded q f e = rw e
 
-pub status_unbounded : (q : Queue) → q.free ≡ unbounded → status_text q ≡ joined (dec (length q.values) ∷ (dash ∷ []) ∷ map dec (behind q))
+pub status_unbounded : (q : Queue) → q.free ≡ unbounded → status_text q ≡ joined (decimal (length q.values) ∷ (dash ∷ []) ∷ map decimal (behind q))
 unfolding status
 status_unbounded q e = rw e
 

@@ -1,162 +1,101 @@
-// Text put into a lent buffer, behind what stands there up to `at`. Each function answers where its text ends.
-ghost use Rattle.std.specs.Prelude.{◌≡◌, ◌+◌, ◌*◌, ◌≤◌, [], ◌∷◌, ◌++◌, length};
-ghost use Rattle.lines.specs.Text.{space};
-ghost use Rattle.lines.specs.Shown.{Put, Counted, dec, decs, field_text, shown, answered, told};
+// Text put into a lent buffer.
+ghost use Rattle.std.specs.Prelude.{◌≡◌, ◌+◌, ◌*◌, ◌≤◌, [], ◌∷◌, length};
+ghost use Rattle.std.specs.Fmt.{decimal};
+ghost use Rattle.lines.specs.Shown.{Put, Adds, decs, field_text, shown, told};
+
+use crate::Answer;
+use itoa::Buffer;
 
 // The code of an answer that shows counts.
 const STATUS: u32 = 4;
 
-// One byte.
-fn put(out: &mut [u8], at: usize, b: u8) -> usize
-    requires { at + 1 ≤ length out.old }
-    ensures { Put out.old out.new at result (b ∷ []) }
-{
-    out[at] = b;
-    at + 1
+// A lent buffer, and where the text in it ends.
+#[derive(Drop)]
+struct Output<'a> {
+    buffer: &'a mut [u8],
+    end: usize,
 }
 
-// The bytes of s.
-fn put_all(out: &mut [u8], at: usize, s: &[u8]) -> usize
-    requires { at + length s.now ≤ length out.old }
-    ensures { Put out.old out.new at result s.now }
-{
-    let mut j = 0;
-    while j < s.len() {
-        out[at + j] = s[j];
-        j += 1;
+impl Output<'_> {
+    fn byte(&mut self, byte: u8)
+        requires { self.old.end + 1 ≤ length self.old.buffer.now }
+        ensures { Adds self.old self.new (byte ∷ []) }
+    {
+        self.buffer[self.end] = byte;
+        self.end += 1;
     }
-    at + j
-}
 
-// A number in decimal: 20 bytes at most.
-fn put_dec(out: &mut [u8], at: usize, n: u64) -> usize
-    requires { at + 20 ≤ length out.old }
-    ensures put { Put out.old out.new at result (dec n) }
-    ensures upper_bound { result ≤ at + 20 }
-{
-    let mut text = [b'0'; 20];
-    let mut i: usize = 19;
-    let mut rest = n;
-    while 0 < i {
-        if rest < 10 {
-            break;
+    fn bytes(&mut self, bytes: &[u8])
+        requires { self.old.end + length bytes.now ≤ length self.old.buffer.now }
+        ensures { Adds self.old self.new bytes.now }
+    {
+        let end = self.end + bytes.len();
+        self.buffer[self.end..end].copy_from_slice(bytes);
+        self.end = end;
+    }
+
+    // A number in decimal: 20 bytes at most.
+    fn number(&mut self, number: u64)
+        requires { self.old.end + 20 ≤ length self.old.buffer.now }
+        ensures adds { Adds self.old self.new (decimal number) }
+        ensures upper_bound { self.new.end ≤ self.old.end + 20 }
+    {
+        let mut digits = Buffer::new();
+        self.bytes(digits.format(number).as_bytes());
+    }
+
+    // Numbers joined by commas, `-` for none.
+    fn list(&mut self, numbers: &[u32])
+        requires { self.old.end + 21 * length numbers.now + 1 ≤ length self.old.buffer.now }
+        ensures adds { Adds self.old self.new (decs numbers.now) }
+        ensures upper_bound { self.new.end ≤ self.old.end + 21 * length numbers.now + 1 }
+    {
+        let Some((first, others)) = numbers.split_first() else {
+            return self.byte(b'-');
+        };
+        self.number(u64::from(*first));
+        for other in others {
+            self.byte(b',');
+            self.number(u64::from(*other));
         }
-        text[i] = b'0' + (rest % 10) as u8;
-        rest = rest / 10;
-        i -= 1;
     }
-    text[i] = b'0' + (rest % 10) as u8;
-    put_all(out, at, &text[i..])
-}
 
-fn wide(x: u32) -> u64
-    ensures { result ≡ x }
-{
-    x as u64
-}
-
-// Numbers joined by commas, `-` for none.
-fn put_list(out: &mut [u8], at: usize, xs: &[u32]) -> usize
-    requires { at + 21 * length xs.now + 1 ≤ length out.old }
-    ensures put { Put out.old out.new at result (decs xs.now) }
-    ensures upper_bound { result ≤ at + 21 * length xs.now + 1 }
-{
-    if xs.len() == 0 {
-        return put(out, at, b'-');
+    // An answer's field. A status of five counts, as the definition's answer has them, is that of an unbounded queue: `-` stands in the place of
+    // its free room.
+    fn field(&mut self, code: u32, field: &[u32])
+        requires { self.old.end + 21 * length field.now + 3 ≤ length self.old.buffer.now }
+        ensures adds { Adds self.old self.new (field_text code field.now) }
+        ensures upper_bound { self.new.end ≤ self.old.end + 21 * length field.now + 3 }
+    {
+        if code == STATUS && field.len() == 5 {
+            self.number(u64::from(field[0]));
+            self.bytes(b",-,");
+            return self.list(&field[1..]);
+        }
+        self.list(field);
     }
-    let mut p = put_dec(out, at, wide(xs[0]));
-    let mut i = 1;
-    while i < xs.len() {
-        p = put(out, p, b',');
-        p = put_dec(out, p, wide(xs[i]));
-        i += 1;
-    }
-    p
-}
-
-// Line number and code, a space behind each.
-fn put_head(out: &mut [u8], at: usize, line: u64, code: u32) -> usize
-    requires { at + 42 ≤ length out.old }
-    ensures put { Put out.old out.new at result (dec line ++ (space ∷ (dec code ++ (space ∷ [])))) }
-    ensures upper_bound { result ≤ at + 42 }
-{
-    let a = put_dec(out, at, line);
-    let b = put(out, a, b' ');
-    let c = put_dec(out, b, wide(code));
-    put(out, c, b' ')
-}
-
-// A list, and the byte `end` behind it.
-fn put_item(out: &mut [u8], at: usize, xs: &[u32], end: u8) -> usize
-    requires { at + 21 * length xs.now + 2 ≤ length out.old }
-    ensures put { Put out.old out.new at result (decs xs.now ++ (end ∷ [])) }
-    ensures upper_bound { result ≤ at + 21 * length xs.now + 2 }
-{
-    let a = put_list(out, at, xs);
-    put(out, a, end)
-}
-
-// An answer's field, a space behind it. A status of five counts is that of an unbounded queue: `-` stands in the place of its free room.
-fn put_field(out: &mut [u8], at: usize, code: u32, field: &[u32]) -> usize
-    requires { at + 21 * length field.now + 4 ≤ length out.old }
-    ensures put { Put out.old out.new at result (field_text code field.now ++ (space ∷ [])) }
-    ensures upper_bound { result ≤ at + 21 * length field.now + 4 }
-{
-    if code == STATUS && field.len() == 5 {
-        let a = put_dec(out, at, wide(field[0]));
-        let b = put_all(out, a, b",-,");
-        return put_item(out, b, &field[1..], b' ');
-    }
-    put_item(out, at, field, b' ')
-}
-
-// An answer's line, its LF with it.
-fn put_line(
-    out: &mut [u8],
-    at: usize,
-    line: u64,
-    code: u32,
-    field: &[u32],
-    wakes: &[u32],
-    retired: &[u32],
-) -> usize
-    requires at_in_bounds { at + 1024 ≤ length out.old }
-    requires field_len_bound { length field.now ≤ 6 }
-    requires wakes_len_bound { length wakes.now ≤ 32 }
-    requires retired_len_bound { length retired.now ≤ 1 }
-    ensures put { Put out.old out.new at result (shown line (answered code field.now wakes.now retired.now)) }
-    ensures upper_bound { result ≤ at + 1024 }
-{
-    let a = put_head(out, at, line, code);
-    let b = put_field(out, a, code, field);
-    let c = put_item(out, b, wakes, b' ');
-    put_item(out, c, retired, b'\n')
-}
-
-// An answer to be shown: a code, and three lists, each in an array with its count.
-#[derive(Clone, Copy)]
-pub struct Answer {
-    pub code: u32,
-    pub field: [u32; 6],
-    pub fields: usize,
-    pub wakes: [u32; 32],
-    pub woken: usize,
-    pub retired: [u32; 1],
-    pub gone: usize,
 }
 
 // Puts the line that shows an answer behind what `out` holds up to `at`: 1,024 bytes at most.
-pub fn print(out: &mut [u8], at: usize, line: u64, a: Answer) -> usize
-    requires at_in_bounds { at + 1024 ≤ length out.old }
-    requires counted { Counted a }
-    ensures put { Put out.old out.new at result (shown line (told a)) }
+pub fn print(out: &mut [u8], at: usize, line: u64, answer: Answer) -> usize
+    requires { at + 1024 ≤ length out.old }
+    ensures put { Put out.old out.new at result (shown line (told answer.entry)) }
     ensures upper_bound { result ≤ at + 1024 }
 {
-    let f = a.field;
-    let nf = a.fields;
-    let w = a.wakes;
-    let nw = a.woken;
-    let g = a.retired;
-    let ng = a.gone;
-    put_line(out, at, line, a.code, &f[..nf], &w[..nw], &g[..ng])
+    let retired = answer.retired.as_slice();
+    let mut output = Output {
+        buffer: out,
+        end: at,
+    };
+    output.number(line);
+    output.byte(b' ');
+    output.number(u64::from(answer.code));
+    output.byte(b' ');
+    output.field(answer.code, answer.field);
+    output.byte(b' ');
+    output.list(answer.wakes);
+    output.byte(b' ');
+    output.list(retired);
+    output.byte(b'\n');
+    output.end
 }

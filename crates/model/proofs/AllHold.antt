@@ -1,4 +1,4 @@
--- The definition answers P1 to P12 and the listing as document 01 says, the edges as the crate does, or where it has no such answer as the
+-- The definition answers P1 to P12 and the listing as the specification says, the edges as the crate does, or where it has no such answer as the
 -- requests say, and turns as they are counted: each list by one computation. Assumes nothing.
 use mathlib.Core.Path.{refl}
 use Rattle.model.specs.Calls.{make, make_u, answers, after, step, clone_s, clone_r, try_send, try_res, open_out, open_in, poll_out, cancel_out, permit_send, permit_drop, try_recv, poll_in, cancel_in, drop_s, drop_r, status}

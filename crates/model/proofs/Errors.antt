@@ -1,9 +1,9 @@
--- The easy errors of document 01 are not made, on any queue that keeps the invariant. Assumes nothing.
+-- The easy errors are not made, on any queue that keeps the invariant. Assumes nothing.
 use Rattle.std.specs.Prelude.{if◌then◌else◌}
 use mathlib.Core.Path.{◌≡◌, refl, ap, ◌∙◌}
 use mathlib.Core.Bool.{Bool, true, false, not, ◌&&◌}
 use mathlib.Core.List.{List, [], ◌∷◌, ◌++◌}
-use mathlib.Core.Option.{some}
+use Rattle.std.specs.Prelude.{Some}
 use Prim.Native.Nat.{ℕ, ◌<◌}
 use native.Mathlib.Omega.{arith}
 use lib.Dec.{eqb, ltb}
@@ -27,7 +27,7 @@ without_none n (k ∷ l) e =
     (λ t. let z : same n k ≡ 1 = ap {B = ℕ} (λ (b : Bool). if b then 1 else 0) t in absurd (omega arith))
     (λ t. ap (λ (x : List ℕ). k ∷ x) (without_none n l (omega arith)))
 
-tokens_clear : (t : Table (Op Job)) (n : ℕ) (op : Op Job) (l : List ℕ) → lookup t n ≡ some op → occurs n l ≡ 0 → tokens_of (clear t n) l ≡ tokens_of t l
+tokens_clear : (t : Table (Op Job)) (n : ℕ) (op : Op Job) (l : List ℕ) → lookup t n ≡ Some op → occurs n l ≡ 0 → tokens_of (clear t n) l ≡ tokens_of t l
 tokens_clear t n op [] e z = refl
 tokens_clear t n op (k ∷ l) e z =
     let apart : k ≡ n → ⊥ = λ q. let y = same_yes n in let x : same n k ≡ same n n = ap (same n) q in omega arith in

@@ -4,7 +4,7 @@ use Rattle.std.specs.Prelude.{if◌then◌else◌}
 use mathlib.Core.Path.{◌≡◌, refl, sym, ap, ◌∙◌}
 use mathlib.Core.Bool.{Bool, true, false, not, ◌&&◌, ◌||◌}
 use mathlib.Core.List.{List, [], ◌∷◌, ◌++◌}
-use mathlib.Core.Option.{Option, none, some}
+use Rattle.std.specs.Prelude.{Option, None, Some}
 use Prim.Native.Nat.{ℕ, zero, suc, ◌+◌, ◌/◌, ◌%◌, ◌<◌, ◌≤◌, max}
 use native.Mathlib.Omega.{arith}
 use native.Mathlib.Decide.{ℕ_discrete}
@@ -108,7 +108,7 @@ module _ {A : Type 0} where
       (λ m h. ap (ltb (m / 64)) e ∙ sym (or_false (ltb (m / 64) (uses (place_of t n))))) (λ m d. refl)
 
   -- a record comes, at a turn that is left: its number is given
-  on_give : (t : Table A) (n : ℕ) (a : A) → size t ≤ 64 → lowest t ≡ some n → Onward (n ∷ []) t (put t n a)
+  on_give : (t : Table A) (n : ℕ) (a : A) → size t ≤ 64 → lowest t ≡ Some n → Onward (n ∷ []) t (put t n a)
   on_give t n a b e =
       let h = has_lowest t n b e in
       let turn-of-n = h.on_turn in
@@ -130,11 +130,11 @@ module _ {A : Type 0} where
               ∙ sym (ap (λ (x : Bool). ltb (m / 64) (n / 64) || (x || false)) (ne_eqb m n d) ∙ or_false (ltb (m / 64) (n / 64)))
 
   -- a live number's place, now used
-  live_uses : (t : Table A) (n : ℕ) (a : A) → lookup t n ≡ some a → uses (place_of t n) ≡ n / 64 + 1
+  live_uses : (t : Table A) (n : ℕ) (a : A) → lookup t n ≡ Some a → uses (place_of t n) ≡ n / 64 + 1
   live_uses t n a e = let h = has_live t n a e in omega (arith, h.on_turn, ap (of (λ x. 1)) (sym (here t n h) ∙ e))
 
   -- a record that is live goes; one that is live, and all of them, are changed
-  on_clear : (t : Table A) (n : ℕ) (a : A) → lookup t n ≡ some a → Onward [] t (clear t n)
+  on_clear : (t : Table A) (n : ℕ) (a : A) → lookup t n ≡ Some a → Onward [] t (clear t n)
   on_clear t n a e =
       let h = has_live t n a e in
       let u = live_uses t n a e in
@@ -144,8 +144,8 @@ module _ {A : Type 0} where
   on_change t n f = by (lookup t n) refl
     where
       by : (o : Option A) → lookup t n ≡ o → Onward [] t (change_in t n f o)
-      by none e = stay t
-      by (some a) e =
+      by None e = stay t
+      by (Some a) e =
           let h = has_live t n a e in
           let u = live_uses t n a e in
           on_same t n (holds (n / 64) (f a)) h.inside (omega (arith, h.on_turn)) (omega arith)
@@ -169,16 +169,16 @@ module _ {A : Type 0} where
   pub used_is : (t : Table A) (n : ℕ) → used t n ≡ (found (lookup t n) || was_closed t n)
   used_is t n = by (lookup t n) refl
     where
-      vacant_uses : (x : Place A) → in_place x ≡ none → uses x ≡ turn x
+      vacant_uses : (x : Place A) → in_place x ≡ None → uses x ≡ turn x
       vacant_uses x e = omega (arith, ap (of (λ a. 1)) e)
 
-      none_in_use : lookup t n ≡ none → n / 64 < uses (place_of t n) → Dec (n / 64 ≡ turn (place_of t n)) → n / 64 < turn (place_of t n)
+      none_in_use : lookup t n ≡ None → n / 64 < uses (place_of t n) → Dec (n / 64 ≡ turn (place_of t n)) → n / 64 < turn (place_of t n)
       none_in_use e u (yes k) = absurd (omega (arith, vacant_uses (place_of t n) (sym (on_turn_lem (n / 64) (place_of t n) k) ∙ e)))
       none_in_use e u (no d) = omega (arith, uses_le (place_of t n))
 
       by : (o : Option A) → lookup t n ≡ o → used t n ≡ (found o || was_closed t n)
-      by (some a) e = lt-ltb (n / 64) (uses (place_of t n)) (omega (arith, live_uses t n a e))
-      by none e =
+      by (Some a) e = lt-ltb (n / 64) (uses (place_of t n)) (omega (arith, live_uses t n a e))
+      by None e =
           same_truth (used t n) (was_closed t n)
           (λ h. lt-ltb (n / 64) (turn (place_of t n)) (none_in_use e (ltb-true (n / 64) (uses (place_of t n)) h) (ℕ_discrete (n / 64) (turn (place_of t n)))))
           (λ h. lt-ltb (n / 64) (uses (place_of t n)) (let k = ltb-true (n / 64) (turn (place_of t n)) h in omega arith))
@@ -232,7 +232,7 @@ abbrev Silent : Queue → Queue → Type 0
 Silent q r = Forward (λ k. []) q r
 
 abbrev only : Kind → List ℕ → Kind → List ℕ
-only j g k = if is_kind k (some j) then g else []
+only j g k = if is_kind k (Some j) then g else []
 
 unmoved : (q : Queue) → Silent q q
 unmoved q = record { senders = stay q.senders; receivers = stay q.receivers; outs = stay q.outs.ops; ins = stay q.ins.ops; permits = stay q.permits }
@@ -289,7 +289,7 @@ abbrev Goes : Option Kind → Queue → Result → Type 0
 Goes j q r = Forward (λ k. gave k j r.ans) q r.next
 
 module _ (j : Option Kind) where
-  go_need : {A : Type 0} (t : Table A) (n : ℕ) (q : Queue) (go : A → Result) → ((a : A) → lookup t n ≡ some a → Goes j q (go a)) → Goes j q (need t n q go)
+  go_need : {A : Type 0} (t : Table A) (n : ℕ) (q : Queue) (go : A → Result) → ((a : A) → lookup t n ≡ Some a → Goes j q (go a)) → Goes j q (need t n q go)
   go_need t n q go h = need_cases (Goes j q) t n q go (λ e. unmoved q) (λ e. unmoved q) h
 
   go_give : {A : Type 0} (t : Table A) (q : Queue) (go : ℕ → Result) → size t ≤ 64 → ((n : ℕ) → ((a : A) → Onward (n ∷ []) t (put t n a)) → Goes j q (go n)) → Goes j q (give t q go)
@@ -305,69 +305,69 @@ module _ (j : Option Kind) where
   go_take [] r e q x f h = go_if q (no_sender x) _ _ f h
   go_take (v ∷ vs) r e q x f h = and_next f (released (set_values vs x))
 
-go_complete : (j : Job) (s : ℕ) (q x : Queue) → size q.permits ≤ 64 → Silent q x → Goes (some permit) q (complete j s q x)
-go_complete bare s q x b f = go_give (some permit) q.permits q _ b λ n comes.
+go_complete : (j : Job) (s : ℕ) (q x : Queue) → size q.permits ≤ 64 → Silent q x → Goes (Some permit) q (complete j s q x)
+go_complete bare s q x b f = go_give (Some permit) q.permits q _ b λ n comes.
     record { senders = f.senders; receivers = f.receivers; outs = f.outs; ins = f.ins; permits = comes s }
-go_complete (carrying v) s q x b f = go_push (some permit) v q x f
+go_complete (carrying v) s q x b f = go_push (Some permit) v q x f
 
 -- a record goes
 module _ (q : Queue) (n : ℕ) where
-  sender_ends : (a : Mark) → lookup q.senders n ≡ some a → Silent q (set_senders (clear q.senders n) q)
+  sender_ends : (a : Mark) → lookup q.senders n ≡ Some a → Silent q (set_senders (clear q.senders n) q)
   sender_ends a e = by_senders q [] (clear q.senders n) (on_clear q.senders n a e)
 
-  receiver_ends : (a : Mark) → lookup q.receivers n ≡ some a → Silent q (set_receivers (clear q.receivers n) q)
+  receiver_ends : (a : Mark) → lookup q.receivers n ≡ Some a → Silent q (set_receivers (clear q.receivers n) q)
   receiver_ends a e = by_receivers q [] (clear q.receivers n) (on_clear q.receivers n a e)
 
-  out_ends : (op : Op Job) → lookup q.outs.ops n ≡ some op → Silent q (set_outs (ended n q.outs) q)
+  out_ends : (op : Op Job) → lookup q.outs.ops n ≡ Some op → Silent q (set_outs (ended n q.outs) q)
   out_ends op e = by_outs q [] (ended n q.outs) (on_clear q.outs.ops n op e)
 
-  in_ends : (op : Op Job) → lookup q.ins.ops n ≡ some op → Silent q (set_ins (ended n q.ins) q)
+  in_ends : (op : Op Job) → lookup q.ins.ops n ≡ Some op → Silent q (set_ins (ended n q.ins) q)
   in_ends op e = by_ins q [] (ended n q.ins) (on_clear q.ins.ops n op e)
 
-  permit_ends : (s : ℕ) → lookup q.permits n ≡ some s → Silent q (set_permits (clear q.permits n) q)
+  permit_ends : (s : ℕ) → lookup q.permits n ≡ Some s → Silent q (set_permits (clear q.permits n) q)
   permit_ends s e = by_permits q [] (clear q.permits n) (on_clear q.permits n s e)
 
-opening : (j : Job) (s : ℕ) (q : Queue) → Inv 0 0 q → Goes (some outgoing) q (open_out j s q)
+opening : (j : Job) (s : ℕ) (q : Queue) → Inv 0 0 q → Goes (Some outgoing) q (open_out j s q)
 unfolding open_out
-opening j s q i = go_need (some outgoing) q.senders s q _ λ a e. go_if (some outgoing) q (is_unbounded q) _ _ (unmoved q) (go_give (some outgoing) q.outs.ops q _ (omega (arith, i.outs.wide)) λ n comes.
+opening j s q i = go_need (Some outgoing) q.senders s q _ λ a e. go_if (Some outgoing) q (is_unbounded q) _ _ (unmoved q) (go_give (Some outgoing) q.outs.ops q _ (omega (arith, i.outs.wide)) λ n comes.
     by_outs q (n ∷ []) (opened n s j q.outs) (comes _))
 
 step_goes : (c : Call) (q : Queue) → Inv 0 0 q → Goes (gives c) q (step c q)
 unfolding step clone_s clone_r try_send try_res open_out open_in poll_out cancel_out permit_send permit_drop try_recv poll_in cancel_in drop_s drop_r status
-step_goes (CloneS s) q i = go_need (some sender) q.senders s q _ λ a e. go_give (some sender) q.senders q _ (omega (arith, i.sizes.senders)) λ n comes.
+step_goes (CloneS s) q i = go_need (Some sender) q.senders s q _ λ a e. go_give (Some sender) q.senders q _ (omega (arith, i.sizes.senders)) λ n comes.
     by_senders q (n ∷ []) (put q.senders n tt) (comes tt)
-step_goes (CloneR r) q i = go_need (some receiver) q.receivers r q _ λ a e. go_give (some receiver) q.receivers q _ (omega (arith, i.sizes.receivers)) λ n comes.
+step_goes (CloneR r) q i = go_need (Some receiver) q.receivers r q _ λ a e. go_give (Some receiver) q.receivers q _ (omega (arith, i.sizes.receivers)) λ n comes.
     by_receivers q (n ∷ []) (put q.receivers n tt) (comes tt)
-step_goes (TrySend s v) q i = go_need none q.senders s q _ λ a e. go_if none q (no_receiver q) _ _ (unmoved q) (go_if none q (no_free q) _ _ (unmoved q)
-    (go_if none q (ring_full q) _ _ (unmoved q) (go_push none v q (acquire q) (unmoved q))))
-step_goes (TryRes s) q i = go_need (some permit) q.senders s q _ λ a e. go_if (some permit) q (is_unbounded q) _ _ (unmoved q) (go_if (some permit) q (no_receiver q) _ _ (unmoved q)
-    (go_if (some permit) q (no_free q) _ _ (unmoved q) (go_complete bare s q (acquire q) (omega (arith, i.sizes.permits)) (unmoved q))))
+step_goes (TrySend s v) q i = go_need None q.senders s q _ λ a e. go_if None q (no_receiver q) _ _ (unmoved q) (go_if None q (no_free q) _ _ (unmoved q)
+    (go_if None q (ring_full q) _ _ (unmoved q) (go_push None v q (acquire q) (unmoved q))))
+step_goes (TryRes s) q i = go_need (Some permit) q.senders s q _ λ a e. go_if (Some permit) q (is_unbounded q) _ _ (unmoved q) (go_if (Some permit) q (no_receiver q) _ _ (unmoved q)
+    (go_if (Some permit) q (no_free q) _ _ (unmoved q) (go_complete bare s q (acquire q) (omega (arith, i.sizes.permits)) (unmoved q))))
 step_goes (Reserve s) q i = opening bare s q i
 step_goes (Send s v) q i = opening (carrying v) s q i
-step_goes (Recv r) q i = go_need (some incoming) q.receivers r q _ λ a e. go_give (some incoming) q.ins.ops q _ (omega (arith, i.ins.wide)) λ n comes.
+step_goes (Recv r) q i = go_need (Some incoming) q.receivers r q _ λ a e. go_give (Some incoming) q.ins.ops q _ (omega (arith, i.ins.wide)) λ n comes.
     by_ins q (n ∷ []) (opened n r bare q.ins) (comes _)
-step_goes (PollOut n t) q i = go_need (some permit) q.outs.ops n q _ λ op e.
-    go_if (some permit) q (no_receiver q) _ _ (out_ends q n op e)
-    (go_if (some permit) q (eqb (is_called op.stage) 1) _ _ (go_complete op.job op.owner q (set_outs (ended n q.outs) q) (omega (arith, i.sizes.permits)) (out_ends q n op e))
-    (go_if (some permit) q (eqb (waits op.stage) 0 && not (no_free q)) _ _ (go_complete op.job op.owner q (acquire (set_outs (ended n q.outs) q)) (omega (arith, i.sizes.permits)) (out_ends q n op e))
+step_goes (PollOut n t) q i = go_need (Some permit) q.outs.ops n q _ λ op e.
+    go_if (Some permit) q (no_receiver q) _ _ (out_ends q n op e)
+    (go_if (Some permit) q (eqb (is_called op.stage) 1) _ _ (go_complete op.job op.owner q (set_outs (ended n q.outs) q) (omega (arith, i.sizes.permits)) (out_ends q n op e))
+    (go_if (Some permit) q (eqb (waits op.stage) 0 && not (no_free q)) _ _ (go_complete op.job op.owner q (acquire (set_outs (ended n q.outs) q)) (omega (arith, i.sizes.permits)) (out_ends q n op e))
     (by_outs q [] (pended op.stage n t q.outs) (on_change q.outs.ops n _))))
-step_goes (CancelOut n) q i = go_need none q.outs.ops n q _ λ op e.
-    go_if none q (eqb (is_called op.stage) 1) _ _ (and_next (out_ends q n op e) (released (set_outs (ended n q.outs) q))) (out_ends q n op e)
-step_goes (PermitSend p v) q i = go_need none q.permits p q _ λ s e.
-    go_if none q (no_receiver q) _ _ (permit_ends q p s e)
-    (go_push none v q (set_permits (clear q.permits p) q) (permit_ends q p s e))
-step_goes (PermitDrop p) q i = go_need none q.permits p q _ λ s e. and_next (permit_ends q p s e) (released (set_permits (clear q.permits p) q))
-step_goes (TryRecv r) q i = go_need none q.receivers r q _ λ a e. go_take none q.values [] _ q q (unmoved q) (unmoved q)
-step_goes (PollIn n t) q i = go_need none q.ins.ops n q _ λ op e.
-    go_take none q.values (kept op.stage) _ q (set_ins (ended n q.ins) q) (in_ends q n op e) (by_ins q [] (pended op.stage n t q.ins) (on_change q.ins.ops n _))
-step_goes (CancelIn n) q i = go_need none q.ins.ops n q _ λ op e.
-    go_if none q (eqb (is_called op.stage) 1 && (not (no_sender q) && ltb 0 (length q.values))) _ _
+step_goes (CancelOut n) q i = go_need None q.outs.ops n q _ λ op e.
+    go_if None q (eqb (is_called op.stage) 1) _ _ (and_next (out_ends q n op e) (released (set_outs (ended n q.outs) q))) (out_ends q n op e)
+step_goes (PermitSend p v) q i = go_need None q.permits p q _ λ s e.
+    go_if None q (no_receiver q) _ _ (permit_ends q p s e)
+    (go_push None v q (set_permits (clear q.permits p) q) (permit_ends q p s e))
+step_goes (PermitDrop p) q i = go_need None q.permits p q _ λ s e. and_next (permit_ends q p s e) (released (set_permits (clear q.permits p) q))
+step_goes (TryRecv r) q i = go_need None q.receivers r q _ λ a e. go_take None q.values [] _ q q (unmoved q) (unmoved q)
+step_goes (PollIn n t) q i = go_need None q.ins.ops n q _ λ op e.
+    go_take None q.values (kept op.stage) _ q (set_ins (ended n q.ins) q) (in_ends q n op e) (by_ins q [] (pended op.stage n t q.ins) (on_change q.ins.ops n _))
+step_goes (CancelIn n) q i = go_need None q.ins.ops n q _ λ op e.
+    go_if None q (eqb (is_called op.stage) 1 && (not (no_sender q) && ltb 0 (length q.values))) _ _
     (and_next (in_ends q n op e) (told (set_ins (ended n q.ins) q))) (in_ends q n op e)
-step_goes (DropS s) q i = go_need none q.senders s q _ λ a e.
-    go_if none q (sender_busy s q) _ _ (unmoved q) (go_if none q (no_sender (set_senders (clear q.senders s) q)) _ _
+step_goes (DropS s) q i = go_need None q.senders s q _ λ a e.
+    go_if None q (sender_busy s q) _ _ (unmoved q) (go_if None q (no_sender (set_senders (clear q.senders s) q)) _ _
     (and_next (sender_ends q s a e) (by_ins (set_senders (clear q.senders s) q) [] (closed_line q.ins) (on_each _ q.ins.ops))) (sender_ends q s a e))
-step_goes (DropR r) q i = go_need none q.receivers r q _ λ a e.
-    go_if none q (receiver_busy r q) _ _ (unmoved q) (go_if none q (no_receiver (set_receivers (clear q.receivers r) q)) _ _
+step_goes (DropR r) q i = go_need None q.receivers r q _ λ a e.
+    go_if None q (receiver_busy r q) _ _ (unmoved q) (go_if None q (no_receiver (set_receivers (clear q.receivers r) q)) _ _
     (and_next (receiver_ends q r a e) (by_outs (set_receivers (clear q.receivers r) q) [] (closed_line q.outs) (on_each _ q.outs.ops))) (receiver_ends q r a e))
 step_goes Status q i = unmoved q
 
@@ -477,7 +477,7 @@ dead_said b cs i c x e =
 
 -- ---- NO NUMBER LEFT FOR A PERMIT, on any queue
 -- a send's poll-out, by its ways
-not_a_send : (n t : ℕ) (q : Queue) (op : Op Job) (v : ℕ) → op.job ≡ carrying v → lookup q.outs.ops n ≡ some op → (poll_out n t q).ans.code ≡ 23 → ⊥
+not_a_send : (n t : ℕ) (q : Queue) (op : Op Job) (v : ℕ) → op.job ≡ carrying v → lookup q.outs.ops n ≡ Some op → (poll_out n t q).ans.code ≡ 23 → ⊥
 not_a_send n t q op v j e = by (no_receiver q) (eqb (is_called op.stage) 1) (eqb (waits op.stage) 0 && not (no_free q)) refl refl refl
   where
     ends : (x : Queue) → (complete op.job op.owner q x).ans.code ≡ 0
@@ -489,7 +489,7 @@ not_a_send n t q op v j e = by (no_receiver q) (eqb (is_called op.stage) 1) (eqb
     by false false true a b c z = omega (arith, ap (λ (x : Result). x.ans.code) (poll_out_room n t q op e a b c), ends (acquire (set_outs (ended n q.outs) q)))
     by false false false a b c z = omega (arith, ap (λ (x : Result). x.ans.code) (poll_out_pending n t q op e a b c))
 
-pub short_of_permits : (q : Queue) → lowest q.permits ≡ none → ShortOfPermits q
+pub short_of_permits : (q : Queue) → lowest q.permits ≡ None → ShortOfPermits q
 unfolding step
 short_of_permits q short =
     record {

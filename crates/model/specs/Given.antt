@@ -1,7 +1,7 @@
 -- WHICH KIND OF DEAD: a call with a number that is not live answers 26 if that number was given earlier in this history, in its kind, and 21
 -- if none gave it. proofs/Theorems.antt proves this for any beginning and any calls. Nothing is assumed.
 use Rattle.std.specs.Prelude.{◌≡◌, Bool, false, not, ◌&&◌, ◌||◌, List, [], ◌∷◌, ◌++◌, ℕ, eqb, if◌then◌else◌}
-use Rattle.std.proofs.Math.Option.{Option, none, some}
+use Rattle.std.specs.Prelude.{Option, None, Some}
 use Rattle.model.specs.Queue.{Ans, DONE, GIVEN, NO_HANDLE, CLOSED}
 use Rattle.model.specs.Calls.{Begin, begin, step, answers, after, among}
 use Rattle.model.specs.Calls.{Call, CloneS, CloneR, TrySend, TryRes, Reserve, Send, Recv, PollOut, CancelOut}
@@ -10,23 +10,23 @@ use Rattle.model.specs.Turns.{Kind, sender, receiver, outgoing, incoming, permit
 
 -- the kind of record whose number a call gives, if it answers 2
 abbrev pub gives : Call → Option Kind
-gives (CloneS s) = some sender
-gives (CloneR r) = some receiver
-gives (TrySend s v) = none
-gives (TryRes s) = some permit
-gives (Reserve s) = some outgoing
-gives (Send s v) = some outgoing
-gives (Recv r) = some incoming
-gives (PollOut n t) = some permit
-gives (CancelOut n) = none
-gives (PermitSend p v) = none
-gives (PermitDrop p) = none
-gives (TryRecv r) = none
-gives (PollIn n t) = none
-gives (CancelIn n) = none
-gives (DropS s) = none
-gives (DropR r) = none
-gives Status = none
+gives (CloneS s) = Some sender
+gives (CloneR r) = Some receiver
+gives (TrySend s v) = None
+gives (TryRes s) = Some permit
+gives (Reserve s) = Some outgoing
+gives (Send s v) = Some outgoing
+gives (Recv r) = Some incoming
+gives (PollOut n t) = Some permit
+gives (CancelOut n) = None
+gives (PermitSend p v) = None
+gives (PermitDrop p) = None
+gives (TryRecv r) = None
+gives (PollIn n t) = None
+gives (CancelIn n) = None
+gives (DropS s) = None
+gives (DropR r) = None
+gives Status = None
 
 -- is it the kind k
 abbrev pub ordinal : Kind → ℕ
@@ -37,8 +37,8 @@ ordinal incoming = 3
 ordinal permit = 4
 
 abbrev pub is_kind : Kind → Option Kind → Bool
-is_kind k none = false
-is_kind k (some j) = eqb (ordinal k) (ordinal j)
+is_kind k None = false
+is_kind k (Some j) = eqb (ordinal k) (ordinal j)
 
 -- the numbers of the kind k that a call gave, by what it answered: the field of a 2, if the call gives that kind
 abbrev pub gave : Kind → Option Kind → Ans → List ℕ
@@ -46,7 +46,7 @@ gave k j a = if eqb a.code GIVEN && is_kind k j then a.field else []
 
 -- those that make or make-u gave: sender 0 and receiver 0, if it was not refused
 abbrev pub gave_first : Kind → Ans → List ℕ
-gave_first k a = if eqb a.code DONE && (is_kind k (some sender) || is_kind k (some receiver)) then 0 ∷ [] else []
+gave_first k a = if eqb a.code DONE && (is_kind k (Some sender) || is_kind k (Some receiver)) then 0 ∷ [] else []
 
 -- those that calls gave, by the calls and their answers; and all of a history
 abbrev pub given_by : Kind → List Call → List Ans → List ℕ
@@ -67,4 +67,4 @@ pub record WhichDead (b : Begin) (cs : List Call) (c : Call) (x : Handle) : Type
   pub never_given : eqb (step c (after cs (begin b).next)).ans.code NO_HANDLE ≡ not (was_given x b cs)
 
 abbrev pub SaysWhichDead : Begin → List Call → Type 0
-SaysWhichDead b cs = (c : Call) (x : Handle) → named c ≡ some x → WhichDead b cs c x
+SaysWhichDead b cs = (c : Call) (x : Handle) → named c ≡ Some x → WhichDead b cs c x

@@ -2,7 +2,7 @@
 -- number is too large. proofs/Theorems.antt proves this of `after cs (begin b).next`, for any beginning b and any calls cs. Where no number
 -- is left for a permit: proofs/Turns.antt proves that of any queue. Nothing is assumed.
 use Rattle.std.specs.Prelude.{◌≡◌, Bool, true, false, List, ℕ, ◌≤◌}
-use Rattle.std.proofs.Math.Option.{Option, none, some}
+use Rattle.std.specs.Prelude.{Option, None, Some}
 use Rattle.model.specs.Table.{lookup}
 use Rattle.model.specs.Side.{Stage, idle, called}
 use Rattle.model.specs.Queue.{Queue, Mark, bare, carrying, is_unbounded, no_receiver, no_free, refuse, CLOSED, NO_ROOM}
@@ -25,7 +25,7 @@ pub record Handle : Type 0 where
 
 -- the handle that a call names; status names none
 abbrev pub the : Kind → ℕ → Option Handle
-the k n = some (record { kind = k; number = n })
+the k n = Some (record { kind = k; number = n })
 
 abbrev pub named : Call → Option Handle
 named (CloneS s) = the sender s
@@ -44,12 +44,12 @@ named (PollIn n t) = the incoming n
 named (CancelIn n) = the incoming n
 named (DropS s) = the sender s
 named (DropR r) = the receiver r
-named Status = none
+named Status = None
 
 -- is it live in a queue
 abbrev pub found : {A : Type 0} → Option A → Bool
-found none = false
-found (some a) = true
+found None = false
+found (Some a) = true
 
 abbrev pub live_as : Kind → ℕ → Queue → Bool
 live_as sender n q = found (lookup q.senders n)
@@ -64,7 +64,7 @@ is_live x q = live_as x.kind x.number q
 -- CLOSED FOR GOOD: from this queue on no calls make x live, and a call that names x is answered 26 and changes nothing
 pub record ClosedForGood (x : Handle) (q : Queue) : Type 0 where
   pub never_live : (cs : List Call) → is_live x (after cs q) ≡ false
-  pub changes_nothing : (cs : List Call) (c : Call) → named c ≡ some x → step c (after cs q) ≡ refuse CLOSED (after cs q)
+  pub changes_nothing : (cs : List Call) (c : Call) → named c ≡ Some x → step c (after cs q) ≡ refuse CLOSED (after cs q)
 
 -- whatever is live in the queue and is not after some calls
 abbrev pub NeverAgain : Queue → Type 0
@@ -78,7 +78,7 @@ NumbersFit q = (x : Handle) → is_live x q ≡ true → x.number ≤ 4294967295
 -- a try-res with free room, and a poll-out of a reserve that is granted, or that is not in line while there is free room. A send is not
 -- refused so.
 pub record ShortOfPermits (q : Queue) : Type 0 where
-  pub try_res : (s : ℕ) (m : Mark) → lookup q.senders s ≡ some m → is_unbounded q ≡ false → no_receiver q ≡ false → no_free q ≡ false
+  pub try_res : (s : ℕ) (m : Mark) → lookup q.senders s ≡ Some m → is_unbounded q ≡ false → no_receiver q ≡ false → no_free q ≡ false
       → step (TryRes s) q ≡ refuse NO_ROOM q
   pub granted : (n t h : ℕ) → Open q.outs n h bare called → no_receiver q ≡ false → step (PollOut n t) q ≡ refuse NO_ROOM q
   pub with_room : (n t h : ℕ) → Open q.outs n h bare idle → no_receiver q ≡ false → no_free q ≡ false → step (PollOut n t) q ≡ refuse NO_ROOM q

@@ -16,12 +16,12 @@ use Rattle.queue.specs.Histories.{Run}
 use Rattle.queue.specs.Dumps.{Shows}
 use Rattle.queue.proofs.Histories.{history}
 
-ring_shows : (r : Ring) → ring.Sound r → Shows (ring.values r) r
-ring_shows r s =
+ring_shows : (r : Ring) → Shows (ring.values r) r
+ring_shows r =
     record {
       counted = sym (length_values r);
       queued = λ k b. let n = length_values r in sym (get_d_values r k (omega arith));
-      others = s.zeroed;
+      others = r.zeroed;
     }
 
 -- THE THEOREM: make with any number or make-u, then any calls
@@ -29,4 +29,4 @@ pub dump : (b : Begin) (a : Answer) (q q₂ : Queue) (cs : List Call) (al : List
     → Shows (after cs (begin b).next).values q₂.values
 dump b a q q₂ cs al m r =
     let k = history b a q q₂ cs al m r in
-    subst (λ (x : model.Queue). Shows x.values q₂.values) k.after (ring_shows q₂.values k.sound.shaped.values)
+    subst (λ (x : model.Queue). Shows x.values q₂.values) k.after (ring_shows q₂.values)

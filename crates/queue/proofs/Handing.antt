@@ -1,205 +1,153 @@
--- The exits of the handles' calls, clone_s, clone_r, drop_s, drop_r, and of status. Assumes nothing.
-use Prim.Native.Nat.{ℕ, ◌+◌, ◌<◌, ◌≤◌}
-use mathlib.Core.Path.{◌≡◌, refl, sym, ap, ap₂, ◌∙◌, subst}
-use mathlib.Core.Bool.{Bool, true, false, not}
-use mathlib.Core.List.{List, [], ◌∷◌, ◌++◌}
+-- Handles come and go; and status. Assumes nothing.
+use Prim.Native.Nat.{ℕ}
+use mathlib.Core.Path.{◌≡◌, refl, sym, ap, ◌∙◌, subst}
+use mathlib.Core.Bool.{Bool, true, false}
+use mathlib.Core.List.{[], ◌∷◌}
+use Rattle.std.specs.Prelude.{if◌then◌else◌, Option, None, Some, Result, Ok, Err, OnErr}
 use native.Mathlib.Omega.{arith}
-use borrow.Author.Tests.{lt-ltb, le-ltb}
-use lib.Dec.{ltb}
 use lib.ListN.{length}
 use mir.Val.{Fits}
 use mir.Syntax.{w32}
-use Rattle.ring.specs.declared.Ring.{Ring}
 use Rattle.ring.specs.Values as ring
 use Rattle.ring.proofs.Laws.{length_values}
 use Rattle.tables.specs.declared.Handles.{Handles}
-use Rattle.tables.specs.declared.Number.{Number}
-use Rattle.tables.specs.declared.Number.TheVariants.{NoRoom as NoNumber, Given as GivenNo}
-use Rattle.tables.specs.declared.Cloned.{Cloned}
-use Rattle.tables.specs.Meaning.{handles_of, permits_of, is_live, numbered, belongs}
-use Rattle.tables.specs.Calls.{put_if, Clones, Leaves}
-use Rattle.side.specs.declared.OptToken.TheVariants.{NoToken}
-use Rattle.side.specs.declared.Closed.{Closed}
-use Rattle.side.specs.Meaning.{side_of}
-use Rattle.side.specs.Calls.{Closes}
-use Rattle.model.specs.Table.{Table, lookup, clear, live, sum}
-use Rattle.model.specs.Side as side
+use Rattle.tables.specs.Meaning.{handles_of}
+use Rattle.model.specs.Table.{Table, lookup, was_closed, lowest, put, clear, live}
 use Rattle.model.specs.Queue as model
-use Rattle.model.specs.declared.Call.TheVariants.{CloneS, CloneR, DropS, DropR, Status}
-use Rattle.model.specs.Calls.{step, shown, status}
-use Rattle.model.proofs.Leaves.{clone_s_dead, clone_s_full, clone_s_given, clone_r_dead, clone_r_full, clone_r_given}
-use Rattle.model.proofs.Leaves.{drop_s_dead, drop_s_busy, drop_s_last, drop_s_other, drop_r_dead, drop_r_busy, drop_r_last, drop_r_other}
+use Rattle.model.specs.declared.Call.TheVariants.{CloneS, CloneR, DropS, DropR}
+use Rattle.model.specs.Calls.{step, clone_s, clone_r, drop_s, drop_r}
 use Rattle.queue.specs.declared.Queue.{Queue}
-use Rattle.queue.specs.declared.Counts.{Counts}
-use Rattle.queue.specs.declared.What.{What}
-use Rattle.queue.specs.declared.What.TheVariants.{Done, Discarded, Given as WGiven, Status as WStatus, InUse, NoRoom}
+use Rattle.queue.specs.declared.Error.{Error}
+use Rattle.queue.specs.declared.Success.TheVariants.{Done, Discarded}
 use Rattle.queue.specs.declared.Answer.{Answer}
-use Rattle.queue.specs.declared.Turn.{Turn}
-use Rattle.queue.specs.Meaning.{room_of, queue_of, Shaped, Sound}
-use Rattle.queue.specs.Answers.{field_of}
+use Rattle.queue.specs.Meaning.{queue_of, Sound}
+use Rattle.queue.specs.Answers.{code_of, field_of}
 use Rattle.queue.specs.Promise.{Turned}
-use Rattle.queue.specs.Steps.{dead_in, Says, Silences, silenced, Discards, discarded, Counted}
-use Rattle.queue.proofs.Settled.{stays, refuses, moves, does, with_values, with_senders, with_receivers, with_outs, with_ins}
-use Rattle.queue.proofs.Settled.{shaped_values, shaped_senders, shaped_receivers, shaped_outs, shaped_ins, dead, alive, none_left, some_left}
+use Rattle.queue.specs.Steps.{Says, number_told, Does, live_by, live_in, cloned, put_given, ClonesIn, closable, ClosesIn, silenced, discarded}
+use Rattle.queue.proofs.Settled.{does, gives, moves, decided, refuses, follows, on_the_way, with_senders, with_receivers, shaped_senders, shaped_receivers, none_left, some_left}
 
--- ---- clone_s, clone_r
-module _ (q : Queue) (snd : Sound q) (s : ℕ) (b : Bool) (e : b ≡ is_live (lookup (handles_of q.senders) s)) where
-  pub sender_dead : (what : What) (a : Answer) → not b ≡ true → what ≡ dead_in (handles_of q.senders) s → Says what [] [] a → Turned q (CloneS s) a q
-  unfolding step
-  sender_dead what a d w u = refuses q (CloneS s) (handles_of q.senders) s what a snd w u (clone_s_dead s (queue_of q) (dead _ b e d))
+-- ---- clone_s, clone_r: of either table, which `set` puts into the queue
+module _ (q : model.Queue) (set : Table model.Mark → model.Queue) (t : Table model.Mark) (e : set t ≡ q) where
+  cloned_by : (o : Option model.Mark) (closed : Bool) (l : Option ℕ)
+      → model.reply (code_of (number_told (cloned (live_by o closed) l))) (field_of (number_told (cloned (live_by o closed) l))) [] [] (set (put_given (cloned (live_by o closed) l) tt t))
+      ≡ model.need_of o (if closed then model.CLOSED else model.NO_HANDLE) q (λ _. model.give_of l q (λ n. model.reply model.GIVEN (n ∷ []) [] [] (set (put t n tt))))
+  cloned_by None true l = ap (model.refuse model.CLOSED) e
+  cloned_by None false l = ap (model.refuse model.NO_HANDLE) e
+  cloned_by (Some a) closed None = ap (model.refuse model.NO_ROOM) e
+  cloned_by (Some a) closed (Some n) = refl
 
-  module _ (d : not b ≡ false) (o : Cloned) (k : Clones q.senders o) where
-    pub sender_full : (a : Answer) → o.number ≡ NoNumber → Says NoRoom [] [] a → Turned q (CloneS s) a q
-    unfolding step
-    sender_full a f u =
-        let l = alive _ b e d in
-        stays q (CloneS s) NoRoom a snd u (sym (clone_s_full s (queue_of q) l.0 l.1 (sym k.number ∙ ap numbered f)))
+  cloned_is : (s : ℕ) (r : Result ℕ Error) (t' : Table model.Mark) → r ≡ cloned (live_in t s) (lowest t) → t' ≡ put_given r tt t
+      → model.reply (code_of (number_told r)) (field_of (number_told r)) [] [] (set t') ≡ model.need t s q (λ _. model.give t q (λ n. model.reply model.GIVEN (n ∷ []) [] [] (set (put t n tt))))
+  cloned_is s r t' f g =
+      ap (λ (x : Table model.Mark). model.reply (code_of (number_told r)) (field_of (number_told r)) [] [] (set x)) g
+      ∙ (ap (λ (x : Result ℕ Error). model.reply (code_of (number_told x)) (field_of (number_told x)) [] [] (set (put_given x tt t))) f ∙ cloned_by (lookup t s) (was_closed t s) (lowest t))
 
-    pub sender_given : (n : ℕ) (a : Answer) → o.number ≡ GivenNo n → Says (WGiven n) [] [] a → Turned q (CloneS s) a (with_senders o.handles q)
-    unfolding step
-    sender_given n a f u =
-        let l = alive _ b e d in
-        moves q (CloneS s) (WGiven n) [] [] a (with_senders o.handles q) snd (shaped_senders q snd.shaped o.handles k.sound) u refl
-        (ap (λ (x : Table model.Mark). model.reply model.GIVEN (n ∷ []) [] [] (model.set_senders x (queue_of q))) (k.handles ∙ ap (λ (z : Number). put_if (numbered z) tt (handles_of q.senders)) f)
-        ∙ sym (clone_s_given s (queue_of q) l.0 n l.1 (sym k.number ∙ ap numbered f)))
+module _ (q : Queue) (snd : Sound q) (s : ℕ) (r : Result ℕ Error) (h : Handles) (a : Answer) (u : Says (number_told r) [] [] a) where
+  pub clone_s_turn : ClonesIn q.senders s r h → Turned q (CloneS s) a (with_senders h q)
+  unfolding step clone_s
+  clone_s_turn k =
+      gives q (CloneS s) r a (with_senders h q) snd
+      (record {
+        shaped = shaped_senders q snd.shaped h;
+        is = cloned_is (queue_of q) (λ x. model.set_senders x (queue_of q)) (handles_of q.senders) refl s r (handles_of h) k.number k.table;
+        same = same_err r k.same;
+      }) u
+    where
+      same_err : (x : Result ℕ Error) → OnErr x (h ≡ q.senders) → OnErr x (with_senders h q ≡ q)
+      same_err (Ok n) e = tt
+      same_err (Err y) e = ap (λ (i : Handles). with_senders i q) e
 
-module _ (q : Queue) (snd : Sound q) (s : ℕ) (b : Bool) (e : b ≡ is_live (lookup (handles_of q.receivers) s)) where
-  pub receiver_dead : (what : What) (a : Answer) → not b ≡ true → what ≡ dead_in (handles_of q.receivers) s → Says what [] [] a → Turned q (CloneR s) a q
-  unfolding step
-  receiver_dead what a d w u = refuses q (CloneR s) (handles_of q.receivers) s what a snd w u (clone_r_dead s (queue_of q) (dead _ b e d))
+  pub clone_r_turn : ClonesIn q.receivers s r h → Turned q (CloneR s) a (with_receivers h q)
+  unfolding step clone_r
+  clone_r_turn k =
+      gives q (CloneR s) r a (with_receivers h q) snd
+      (record {
+        shaped = shaped_receivers q snd.shaped h;
+        is = cloned_is (queue_of q) (λ x. model.set_receivers x (queue_of q)) (handles_of q.receivers) refl s r (handles_of h) k.number k.table;
+        same = same_err r k.same;
+      }) u
+    where
+      same_err : (x : Result ℕ Error) → OnErr x (h ≡ q.receivers) → OnErr x (with_receivers h q ≡ q)
+      same_err (Ok n) e = tt
+      same_err (Err y) e = ap (λ (i : Handles). with_receivers i q) e
 
-  module _ (d : not b ≡ false) (o : Cloned) (k : Clones q.receivers o) where
-    pub receiver_full : (a : Answer) → o.number ≡ NoNumber → Says NoRoom [] [] a → Turned q (CloneR s) a q
-    unfolding step
-    receiver_full a f u =
-        let l = alive _ b e d in
-        stays q (CloneR s) NoRoom a snd u (sym (clone_r_full s (queue_of q) l.0 l.1 (sym k.number ∙ ap numbered f)))
+-- ---- drop_s, drop_r: the test, and what follows
+close_is : {A : Type 0} (go : model.Result) (o : Option A) (closed busy : Bool) (q : model.Queue)
+    → decided (λ (u : Unit {0}). go) (closable (live_by o closed) busy) q ≡ model.need_of o (if closed then model.CLOSED else model.NO_HANDLE) q (λ (a : A). if busy then model.refuse model.IN_USE q else go)
+close_is go None true busy q = refl
+close_is go None false busy q = refl
+close_is go (Some a) closed true q = refl
+close_is go (Some a) closed false q = refl
 
-    pub receiver_given : (n : ℕ) (a : Answer) → o.number ≡ GivenNo n → Says (WGiven n) [] [] a → Turned q (CloneR s) a (with_receivers o.handles q)
-    unfolding step
-    receiver_given n a f u =
-        let l = alive _ b e d in
-        moves q (CloneR s) (WGiven n) [] [] a (with_receivers o.handles q) snd (shaped_receivers q snd.shaped o.handles k.sound) u refl
-        (ap (λ (x : Table model.Mark). model.reply model.GIVEN (n ∷ []) [] [] (model.set_receivers x (queue_of q))) (k.handles ∙ ap (λ (z : Number). put_if (numbered z) tt (handles_of q.receivers)) f)
-        ∙ sym (clone_r_given s (queue_of q) l.0 n l.1 (sym k.number ∙ ap numbered f)))
+abbrev dropped_s : model.Queue → model.Result
+dropped_s q = if model.no_sender q then silenced q else model.reply model.DONE [] [] [] q
 
--- ---- sender_busy
-module _ (q : Queue) (s held : ℕ) (e : held ≡ sum (belongs s) (permits_of q.permits)) where
-  pub busy_permit : 0 < held → true ≡ model.sender_busy s (queue_of q)
-  busy_permit h = sym (lt-ltb 0 (sum (belongs s) (permits_of q.permits) + side.owned_by s (side_of q.outs)) (omega (arith, e)))
+abbrev dropped_r : model.Queue → model.Result
+dropped_r q = if model.no_receiver q then discarded q else model.reply model.DONE (0 ∷ []) [] [] q
 
-  pub busy_open : (ops : ℕ) → ops ≡ side.owned_by s (side_of q.outs) → held ≤ 0 → ltb 0 ops ≡ model.sender_busy s (queue_of q)
-  busy_open ops g h =
-      let z : ops ≡ sum (belongs s) (permits_of q.permits) + side.owned_by s (side_of q.outs) = omega (arith, e, g) in
-      ap (ltb 0) z
+drop_s_is : (s : ℕ) (q : model.Queue) → decided (λ (u : Unit {0}). dropped_s (model.set_senders (clear q.senders s) q)) (closable (live_in q.senders s) (model.sender_busy s q)) q ≡ step (DropS s) q
+unfolding step drop_s
+drop_s_is s q = close_is _ (lookup q.senders s) (was_closed q.senders s) (model.sender_busy s q) q
 
--- ---- silence, discard
-pub silence_done : (q : Queue) (w : Shaped q) (c : Closed) → Closes q.ins c
-    → Silences q (record { answer = record { what = Done; wakes = c.wakes; retired = NoToken }; queue = with_ins c.side q })
-silence_done q w c u =
-    record {
-      does = record {
-        shaped = shaped_ins q w c.side u.sound;
-        is = ap₂ (λ (l : List ℕ) (x : side.Side model.Job). model.reply model.DONE [] l [] (model.set_ins x (queue_of q))) u.wakes u.side;
-      };
-    }
+drop_r_is : (s : ℕ) (q : model.Queue) → decided (λ (u : Unit {0}). dropped_r (model.set_receivers (clear q.receivers s) q)) (closable (live_in q.receivers s) (model.receiver_busy s q)) q ≡ step (DropR s) q
+unfolding step drop_r
+drop_r_is s q = close_is _ (lookup q.receivers s) (was_closed q.receivers s) (model.receiver_busy s q) q
 
-pub values_fit_lem : (q : Queue) → Shaped q → (n : ℕ) → n ≡ length (ring.values q.values) → Fits w32 n
-values_fit_lem q w n e = record { fits = omega (arith, length_values q.values, w.values.fits) }
+module _ (q : Queue) (snd : Sound q) (s : ℕ) (a : Answer) (busy : Bool) where
+  module _ (g : busy ≡ model.sender_busy s (queue_of q)) where
+    asked_s : (r : Result (Unit {0}) Error) → closable (live_in (handles_of q.senders) s) busy ≡ r → r ≡ closable (live_in (handles_of q.senders) s) (model.sender_busy s (queue_of q))
+    asked_s r f = sym f ∙ ap (closable (live_in (handles_of q.senders) s)) g
 
-pub discard_done : (q : Queue) (w : Shaped q) (n : ℕ) (v : Ring) (c : Closed) → n ≡ length (ring.values q.values) → (ring.Sound v) × (ring.values v ≡ []) → Closes q.outs c
-    → Discards q (record { answer = record { what = Discarded n; wakes = c.wakes; retired = NoToken }; queue = with_outs c.side (with_values v q) })
-discard_done q w n v c e k u =
-    record {
-      does = record {
-        shaped = shaped_outs (with_values v q) (shaped_values q w v k.0) c.side u.sound;
-        is =
-            ap₂ (λ (i : ℕ) (l : List ℕ). model.reply model.DONE (i ∷ []) l [] (model.set_values (ring.values v) (model.set_outs (side_of c.side) (queue_of q)))) e u.wakes
-            ∙ ap₂ (λ (l : List ℕ) (x : side.Side model.Job). model.reply model.DONE (length (ring.values q.values) ∷ []) (side.all_tokens (side_of q.outs)) [] (model.set_values l (model.set_outs x (queue_of q)))) k.1 u.side;
-      };
-    }
+    pub drop_s_refused : (e : Error) → ClosesIn q.senders s busy (Err e) → Says (Err e) [] [] a → Turned q (DropS s) a q
+    drop_s_refused e f u = does q (DropS s) a q snd (refuses _ _ q _ (drop_s_is s (queue_of q)) e a (asked_s (Err e) f) snd.shaped u)
 
--- ---- drop_s
-module _ (q : Queue) (snd : Sound q) (s : ℕ) (b : Bool) (e : b ≡ is_live (lookup (handles_of q.senders) s)) where
-  pub quit_dead : (what : What) (a : Answer) → not b ≡ true → what ≡ dead_in (handles_of q.senders) s → Says what [] [] a → Turned q (DropS s) a q
-  unfolding step
-  quit_dead what a d w u = refuses q (DropS s) (handles_of q.senders) s what a snd w u (drop_s_dead s (queue_of q) (dead _ b e d))
+    module _ (h : Handles) (k : ClosesIn q.senders s busy (Ok h)) (n : ℕ) (f : n ≡ live (handles_of h)) where
+      left_s : queue_of (with_senders h q) ≡ model.set_senders (clear (handles_of q.senders) s) (queue_of q)
+      left_s = ap (λ (x : Table model.Mark). model.set_senders x (queue_of q)) k.1.handles
 
-  module _ (d : not b ≡ false) (busy : Bool) (g : busy ≡ model.sender_busy s (queue_of q)) where
-    pub quit_busy : (a : Answer) → busy ≡ true → Says InUse [] [] a → Turned q (DropS s) a q
-    unfolding step
-    quit_busy a p u =
-        let l = alive _ b e d in
-        stays q (DropS s) InUse a snd u (sym (drop_s_busy s (queue_of q) l.0 l.1 (sym g ∙ p)))
+      follows_s : dropped_s (queue_of (with_senders h q)) ≡ step (DropS s) (queue_of q)
+      follows_s = ap dropped_s left_s ∙ follows _ _ q _ (drop_s_is s (queue_of q)) tt (asked_s (Ok tt) k.0)
 
-    module _ (p : busy ≡ false) (h : Handles) (k : Leaves q.senders s h) (n : ℕ) (f : n ≡ live (handles_of h)) where
-      senders_left_lem : queue_of (with_senders h q) ≡ model.set_senders (clear (handles_of q.senders) s) (queue_of q)
-      senders_left_lem = ap (λ (x : Table model.Mark). model.set_senders x (queue_of q)) k.handles
+      pub drop_s_last : (q' : Queue) → n ≡ 0 → Does (silenced (queue_of (with_senders h q))) (with_senders h q) a q' → Turned q (DropS s) a q'
+      drop_s_last q' z d =
+          does q (DropS s) a q' snd
+          (subst (λ (w : model.Result). Does w q a q')
+          (sym (ap (λ (b : Bool). if b then silenced (queue_of (with_senders h q)) else model.reply model.DONE [] [] [] (queue_of (with_senders h q))) (none_left (handles_of h) n f z)) ∙ follows_s)
+          (on_the_way q (with_senders h q) (silenced (queue_of (with_senders h q))) a q' refl d))
 
-      pub quit_last : (r : Turn) → n ≡ 0 → Silences (with_senders h q) r → Turned q (DropS s) r.answer r.queue
-      unfolding step
-      quit_last r z u =
-          let l = alive _ b e d in
-          does q (DropS s) _ r snd u.does refl
-          (ap silenced senders_left_lem
-          ∙ sym (drop_s_last s (queue_of q) l.0 l.1 (sym g ∙ p) (none_left (clear (handles_of q.senders) s) n (f ∙ ap live k.handles) z)))
+      pub drop_s_other : (n ≡ 0 → ⊥) → Says (Ok Done) [] [] a → Turned q (DropS s) a (with_senders h q)
+      drop_s_other z u =
+          does q (DropS s) a (with_senders h q) snd
+          (moves _ q (Ok Done) a [] [] (with_senders h q) (shaped_senders q snd.shaped h) u refl
+          (sym (ap (λ (b : Bool). if b then silenced (queue_of (with_senders h q)) else model.reply model.DONE [] [] [] (queue_of (with_senders h q))) (some_left (handles_of h) n f z)) ∙ follows_s))
 
-      pub quit_other : (a : Answer) → (n ≡ 0 → ⊥) → Says Done [] [] a → Turned q (DropS s) a (with_senders h q)
-      unfolding step
-      quit_other a z u =
-          let l = alive _ b e d in
-          moves q (DropS s) Done [] [] a (with_senders h q) snd (shaped_senders q snd.shaped h k.sound) u refl
-          (ap (λ (x : model.Queue). model.reply model.DONE [] [] [] x) senders_left_lem
-          ∙ sym (drop_s_other s (queue_of q) l.0 l.1 (sym g ∙ p) (some_left (clear (handles_of q.senders) s) n (f ∙ ap live k.handles) z)))
+  module _ (g : busy ≡ model.receiver_busy s (queue_of q)) where
+    asked_r : (r : Result (Unit {0}) Error) → closable (live_in (handles_of q.receivers) s) busy ≡ r → r ≡ closable (live_in (handles_of q.receivers) s) (model.receiver_busy s (queue_of q))
+    asked_r r f = sym f ∙ ap (closable (live_in (handles_of q.receivers) s)) g
 
-pub shaped_quit : (q : Queue) (s : ℕ) (h : Handles) → Sound q → Leaves q.senders s h → Shaped (with_senders h q)
-shaped_quit q s h snd k = shaped_senders q snd.shaped h k.sound
+    pub drop_r_refused : (e : Error) → ClosesIn q.receivers s busy (Err e) → Says (Err e) [] [] a → Turned q (DropR s) a q
+    drop_r_refused e f u = does q (DropR s) a q snd (refuses _ _ q _ (drop_r_is s (queue_of q)) e a (asked_r (Err e) f) snd.shaped u)
 
--- ---- drop_r
-module _ (q : Queue) (snd : Sound q) (s : ℕ) (b : Bool) (e : b ≡ is_live (lookup (handles_of q.receivers) s)) where
-  pub leave_dead : (what : What) (a : Answer) → not b ≡ true → what ≡ dead_in (handles_of q.receivers) s → Says what [] [] a → Turned q (DropR s) a q
-  unfolding step
-  leave_dead what a d w u = refuses q (DropR s) (handles_of q.receivers) s what a snd w u (drop_r_dead s (queue_of q) (dead _ b e d))
+    module _ (h : Handles) (k : ClosesIn q.receivers s busy (Ok h)) (n : ℕ) (f : n ≡ live (handles_of h)) where
+      left_r : queue_of (with_receivers h q) ≡ model.set_receivers (clear (handles_of q.receivers) s) (queue_of q)
+      left_r = ap (λ (x : Table model.Mark). model.set_receivers x (queue_of q)) k.1.handles
 
-  module _ (d : not b ≡ false) (o : ℕ) (g : o ≡ side.owned_by s (side_of q.ins)) where
-    pub leave_busy : (a : Answer) → 0 < o → Says InUse [] [] a → Turned q (DropR s) a q
-    unfolding step
-    leave_busy a p u =
-        let l = alive _ b e d in
-        stays q (DropR s) InUse a snd u (sym (drop_r_busy s (queue_of q) l.0 l.1 (lt-ltb 0 (side.owned_by s (side_of q.ins)) (subst (λ (i : ℕ). 0 < i) g p))))
+      follows_r : dropped_r (queue_of (with_receivers h q)) ≡ step (DropR s) (queue_of q)
+      follows_r = ap dropped_r left_r ∙ follows _ _ q _ (drop_r_is s (queue_of q)) tt (asked_r (Ok tt) k.0)
 
-    module _ (p : o ≤ 0) (h : Handles) (k : Leaves q.receivers s h) (n : ℕ) (f : n ≡ live (handles_of h)) where
-      receivers_left_lem : queue_of (with_receivers h q) ≡ model.set_receivers (clear (handles_of q.receivers) s) (queue_of q)
-      receivers_left_lem = ap (λ (x : Table model.Mark). model.set_receivers x (queue_of q)) k.handles
+      pub drop_r_last : (q' : Queue) → n ≡ 0 → Does (discarded (queue_of (with_receivers h q))) (with_receivers h q) a q' → Turned q (DropR s) a q'
+      drop_r_last q' z d =
+          does q (DropR s) a q' snd
+          (subst (λ (w : model.Result). Does w q a q')
+          (sym (ap (λ (b : Bool). if b then discarded (queue_of (with_receivers h q)) else model.reply model.DONE (0 ∷ []) [] [] (queue_of (with_receivers h q))) (none_left (handles_of h) n f z)) ∙ follows_r)
+          (on_the_way q (with_receivers h q) (discarded (queue_of (with_receivers h q))) a q' refl d))
 
-      idle : model.receiver_busy s (queue_of q) ≡ false
-      idle = le-ltb 0 (side.owned_by s (side_of q.ins)) (subst (λ (i : ℕ). i ≤ 0) g p)
+      pub drop_r_other : (n ≡ 0 → ⊥) → Says (Ok (Discarded 0)) [] [] a → Turned q (DropR s) a (with_receivers h q)
+      drop_r_other z u =
+          does q (DropR s) a (with_receivers h q) snd
+          (moves _ q (Ok (Discarded 0)) a [] [] (with_receivers h q) (shaped_receivers q snd.shaped h) u refl
+          (sym (ap (λ (b : Bool). if b then discarded (queue_of (with_receivers h q)) else model.reply model.DONE (0 ∷ []) [] [] (queue_of (with_receivers h q))) (some_left (handles_of h) n f z)) ∙ follows_r))
 
-      pub leave_last : (r : Turn) → n ≡ 0 → Discards (with_receivers h q) r → Turned q (DropR s) r.answer r.queue
-      unfolding step
-      leave_last r z u =
-          let l = alive _ b e d in
-          does q (DropR s) _ r snd u.does refl
-          (ap discarded receivers_left_lem
-          ∙ sym (drop_r_last s (queue_of q) l.0 l.1 idle (none_left (clear (handles_of q.receivers) s) n (f ∙ ap live k.handles) z)))
-
-      pub leave_other : (a : Answer) → (n ≡ 0 → ⊥) → Says (Discarded 0) [] [] a → Turned q (DropR s) a (with_receivers h q)
-      unfolding step
-      leave_other a z u =
-          let l = alive _ b e d in
-          moves q (DropR s) (Discarded 0) [] [] a (with_receivers h q) snd (shaped_receivers q snd.shaped h k.sound) u refl
-          (ap (λ (x : model.Queue). model.reply model.DONE (0 ∷ []) [] [] x) receivers_left_lem
-          ∙ sym (drop_r_other s (queue_of q) l.0 l.1 idle (some_left (clear (handles_of q.receivers) s) n (f ∙ ap live k.handles) z)))
-
-pub shaped_fewer : (q : Queue) (s : ℕ) (h : Handles) → Sound q → Leaves q.receivers s h → Shaped (with_receivers h q)
-shaped_fewer q s h snd k = shaped_receivers q snd.shaped h k.sound
-
--- ---- status
-pub status_is : (q : Queue) (s : Counts) (a : Answer) → Sound q → Counted q s → Says (WStatus s) [] [] a → Turned q Status a q
-unfolding step status
-status_is q s a snd k u =
-    stays q Status (WStatus s) a snd u
-    (ap (λ (f : List ℕ). model.reply model.STATUS f [] [] (queue_of q)) fields)
-  where
-    fields : field_of (WStatus s) ≡ length (ring.values q.values) ∷ shown (room_of q.free.room) ++ live (permits_of q.permits) ∷ side.called_count (side_of q.outs) ∷ length (side_of q.outs).line ∷ side.polled_count (side_of q.ins) ∷ []
-    fields = let h1 = k.queued in let h2 = k.free in let h3 = k.permits in let h4 = k.granted in let h5 = k.lined in let h6 = k.waiting in cc
+-- ---- discard, counts, status
+pub values_fit : (q : Queue) (n : ℕ) → n ≡ length (ring.values q.values) → Fits w32 n
+values_fit q n e = record { fits = omega (arith, length_values q.values, q.values.fits) }

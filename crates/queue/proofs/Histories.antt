@@ -1,4 +1,4 @@
--- WHOLE HISTORIES: every run from make or make-u has the definition's answers and ends in the definition's queue, and demand 3 holds all the way.
+-- WHOLE HISTORIES: every run from make or make-u has the definition's answers and ends in the definition's queue, and nothing is lost all the way (`demand3`).
 -- Assumes nothing.
 use mathlib.Core.Path.{◌≡◌, refl, sym, ap, ap₂, ◌∙◌, subst}
 use mathlib.Core.List.{List, ◌∷◌, map}
@@ -14,7 +14,7 @@ use Rattle.queue.specs.Answers.{ans_of}
 use Rattle.queue.specs.Promise.{Made}
 use Rattle.queue.specs.Histories.{Run, done, then, Kept, Always, last, more}
 
--- demand 3 holds of every sound queue, since it came from make or make-u and calls
+-- nothing is lost on any sound queue, since it came from make or make-u and calls
 pub sound_demand3 : (q : Queue) → Sound q → Demand3 (queue_of q)
 sound_demand3 q s = subst Demand3 (sym s.came.is) (demand3 s.came.begun s.came.calls)
 

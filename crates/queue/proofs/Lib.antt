@@ -1,13 +1,8 @@
 pub mod Settled
-pub mod Moves
-pub mod Sending
-pub mod Sent
-pub mod Polled
-pub mod Receiving
-pub mod Taken
-pub mod FreeRoom
-pub mod Handing
 pub mod Making
+pub mod Sending
+pub mod Handing
+pub mod Receiving
 pub mod Histories
 pub mod Dumps
 pub mod One

@@ -1,114 +1,131 @@
--- What receivers are answered: the ways of recv and cancel_in, and the first value. Assumes nothing.
+-- What receivers do. Assumes nothing.
 use Prim.Native.Nat.{ℕ}
-use mathlib.Core.Path.{◌≡◌, refl, sym, ap, ap₂, ◌∙◌}
-use mathlib.Core.Bool.{Bool, true, false, not, ◌&&◌}
+use mathlib.Core.Path.{◌≡◌, refl, sym, ap, ap₂, ◌∙◌, subst}
+use mathlib.Core.Bool.{Bool, true, false}
 use mathlib.Core.List.{List, [], ◌∷◌}
+use Rattle.std.specs.Prelude.{if◌then◌else◌, Option, None, Some, Ok, Err, option_to_list}
 use native.Mathlib.Omega.{arith}
-use borrow.Author.Tests.{eq-eqb, ne_eqb}
-use lib.Dec.{eqb, ltb}
-use lib.ListN.{length}
-use Rattle.ring.specs.declared.Front.TheVariants.{Value as FValue, Nothing as FNothing}
-use Rattle.ring.specs.declared.Popped.{Popped}
 use Rattle.ring.specs.Values as ring
-use Rattle.tables.specs.declared.Number.{Number}
-use Rattle.tables.specs.declared.Number.TheVariants.{NoRoom as NoNumber, Given as GivenNo}
-use Rattle.tables.specs.Meaning.{handles_of, is_live, numbered}
 use Rattle.side.specs.declared.Side.{Side}
-use Rattle.side.specs.declared.Cargo.TheVariants.{Nothing}
-use Rattle.side.specs.declared.Stage.{Stage}
-use Rattle.side.specs.declared.OptToken.{OptToken}
 use Rattle.side.specs.declared.Entry.{Entry}
-use Rattle.side.specs.declared.View.{View}
-use Rattle.side.specs.declared.View.TheVariants.{Missing, Found}
-use Rattle.side.specs.declared.Opened.{Opened}
-use Rattle.side.specs.Meaning.{side_of, stage_of, deed_of, viewed, token_list}
-use Rattle.side.specs.Calls.{Sees, Opens, opened_if, Ends}
-use Rattle.model.specs.Table.{lookup, live}
+use Rattle.side.specs.declared.Woken.{Woken}
+use Rattle.side.specs.declared.Pended.{Pended}
+use Rattle.side.specs.Meaning.{stage_of, deed_of}
+use Rattle.side.specs.Calls.{Ends, Pends}
+use Rattle.model.specs.Table.{lookup, was_closed}
 use Rattle.model.specs.Side as side
 use Rattle.model.specs.Queue as model
-use Rattle.model.specs.declared.Call.TheVariants.{Recv, CancelIn}
-use Rattle.model.specs.Calls.{step}
-use Rattle.model.proofs.Leaves.{open_in_dead, open_in_full, open_in_given}
-use Rattle.model.proofs.Leaves.{cancel_in_dead, cancel_in_passed, cancel_in_other}
+use Rattle.model.specs.declared.Call.TheVariants.{TryRecv, PollIn, CancelIn}
+use Rattle.model.specs.Calls.{step, try_recv}
+use Rattle.model.proofs.Leaves.{poll_in_value, poll_in_gone, poll_in_pending, cancel_in_passed, cancel_in_other}
 use Rattle.queue.specs.declared.Queue.{Queue}
-use Rattle.queue.specs.declared.What.{What}
-use Rattle.queue.specs.declared.What.TheVariants.{Done, Given as WGiven, NoRoom}
+use Rattle.queue.specs.declared.Error.{Error}
+use Rattle.queue.specs.declared.Error.TheVariants.{Disconnected}
+use Rattle.queue.specs.declared.Success.TheVariants.{Done, Value, Pending}
 use Rattle.queue.specs.declared.Answer.{Answer}
-use Rattle.queue.specs.declared.Turn.{Turn}
-use Rattle.queue.specs.Meaning.{queue_of, Sound}
+use Rattle.queue.specs.Meaning.{queue_of, Shaped, Sound}
 use Rattle.queue.specs.Promise.{Turned}
-use Rattle.queue.specs.Steps.{dead_in, Says, passes}
-use Rattle.queue.proofs.Moves.{Notifies}
-use Rattle.queue.proofs.Settled.{stays, refuses, moves, does, with_ins, shaped_ins, dead, alive}
+use Rattle.queue.specs.Steps.{token_of, Says, Does, Moves, live_by, Finds, takable, takable_of, receivable, receivable_of, popped, passes}
+use Rattle.queue.proofs.Settled.{does, moves, decided, refuses, follows, done, with_ins, shaped_ins}
 
--- ---- recv
-module _ (q : Queue) (snd : Sound q) (s : ℕ) (b : Bool) (e : b ≡ is_live (lookup (handles_of q.receivers) s)) where
-  pub recv_dead : (what : What) (a : Answer) → not b ≡ true → what ≡ dead_in (handles_of q.receivers) s → Says what [] [] a → Turned q (Recv s) a q
+-- ---- try_recv
+-- what follows where a value is told
+abbrev took : model.Queue → ℕ → model.Result
+took q v = let mv = popped q in model.reply model.VALUE (v ∷ []) mv.wakes [] mv.next
+
+abbrev first_by : model.Queue → List ℕ → Bool → model.Result
+first_by q [] gone = if gone then model.reply model.DISCONNECTED [] [] [] q else model.reply model.EMPTY [] [] [] q
+first_by q (v ∷ l) gone = let mv = model.release (model.set_values l q) in model.reply model.VALUE (v ∷ []) mv.wakes [] mv.next
+
+first_is : (q : model.Queue) (l : List ℕ) → first_by q l (model.no_sender q) ≡ model.take_first l [] (model.reply model.EMPTY [] [] [] q) q
+first_is q [] = refl
+first_is q (v ∷ l) = refl
+
+try_recv_is : (r : ℕ) (q : model.Queue) → decided (took q) (receivable r q) q ≡ step (TryRecv r) q
+unfolding step try_recv ring.rest
+try_recv_is r q =
+    by (lookup q.receivers r) (was_closed q.receivers r) q.values (model.no_sender q)
+    ∙ ap (λ (x : model.Result). model.need_of (lookup q.receivers r) (model.dead q.receivers r) q (λ _. x)) (first_is q q.values)
+  where
+    by : (o : Option model.Mark) (closed : Bool) (l : List ℕ) (gone : Bool)
+        → decided (λ v. let mv = model.release (model.set_values (ring.rest l) q) in model.reply model.VALUE (v ∷ []) mv.wakes [] mv.next) (receivable_of (live_by o closed) (takable_of l gone)) q
+        ≡ model.need_of o (if closed then model.CLOSED else model.NO_HANDLE) q (λ _. first_by q l gone)
+    by None true l gone = refl
+    by None false l gone = refl
+    by (Some a) closed [] true = refl
+    by (Some a) closed [] false = refl
+    by (Some a) closed (v ∷ l) gone = refl
+
+module _ (q : Queue) (snd : Sound q) (r : ℕ) (a : Answer) where
+  pub try_recv_refused : (e : Error) → Err e ≡ receivable r (queue_of q) → Says (Err e) [] [] a → Turned q (TryRecv r) a q
+  try_recv_refused e h u = does q (TryRecv r) a q snd (refuses (took (queue_of q)) (receivable r (queue_of q)) q _ (try_recv_is r (queue_of q)) e a h snd.shaped u)
+
+  pub try_recv_took : (v : ℕ) (woken : Option Woken) (q' : Queue) → Ok v ≡ receivable r (queue_of q) → Moves (popped (queue_of q)) q' woken → Says (Ok (Value v)) (token_of woken) [] a → Turned q (TryRecv r) a q'
+  try_recv_took v woken q' h m u =
+      does q (TryRecv r) a q' snd
+      (moves (step (TryRecv r) (queue_of q)) q (Ok (Value v)) a (token_of woken) [] q' m.shaped u refl
+      (ap₂ (λ (w : List ℕ) (x : model.Queue). model.reply model.VALUE (v ∷ []) w [] x) m.wakes m.next ∙ follows (took (queue_of q)) (receivable r (queue_of q)) q _ (try_recv_is r (queue_of q)) v h))
+
+-- ---- what is told of the values
+told_value : (l : List ℕ) (gone : Bool) (v : ℕ) → Ok (Some v) ≡ takable_of l gone → l ≡ v ∷ ring.rest l
+unfolding ring.rest
+told_value [] true v e = let z : ◌≡◌ {A = ℕ} 0 1 = cc in absurd (omega arith)
+told_value [] false v e = let z : ◌≡◌ {A = ℕ} 0 1 = cc in absurd (omega arith)
+told_value (x ∷ l) gone v e = let z : v ≡ x = cc in ap (λ (y : ℕ). y ∷ l) (sym z)
+
+told_empty : (l : List ℕ) (gone : Bool) → Ok None ≡ takable_of l gone → (l ≡ []) × (gone ≡ false)
+told_empty [] true e = let z : ◌≡◌ {A = ℕ} 0 1 = cc in absurd (omega arith)
+told_empty [] false e = (refl, refl)
+told_empty (x ∷ l) gone e = let z : ◌≡◌ {A = ℕ} 0 1 = cc in absurd (omega arith)
+
+told_gone : (l : List ℕ) (gone : Bool) (e : Error) → Err e ≡ takable_of l gone → (l ≡ []) × (gone ≡ true) × (Disconnected None ≡ e)
+told_gone [] true e h = (refl, refl, cc)
+told_gone [] false e h = let z : ◌≡◌ {A = ℕ} 0 1 = cc in absurd (omega arith)
+told_gone (x ∷ l) gone e h = let z : ◌≡◌ {A = ℕ} 0 1 = cc in absurd (omega arith)
+
+-- ---- poll_in
+module _ (q : Queue) (s : Shaped q) (n t : ℕ) (op : Entry) (f : Finds q.ins n (Ok op)) (a : Answer) where
+  pub polled_pending : (o : Pended) → Ok None ≡ takable (queue_of q) → Pends q.ins n t o → Says (Ok Pending) [] (option_to_list o.retired) a → Does (step (PollIn n t) (queue_of q)) q a (with_ins o.side q)
   unfolding step
-  recv_dead what a d w u = refuses q (Recv s) (handles_of q.receivers) s what a snd w u (open_in_dead s (queue_of q) (dead _ b e d))
+  polled_pending o h k u =
+      let g = told_empty (ring.values q.values) (model.no_sender (queue_of q)) h in
+      moves (step (PollIn n t) (queue_of q)) q (Ok Pending) a [] (option_to_list o.retired) (with_ins o.side q) (shaped_ins q s o.side k.sound) u refl
+      (ap₂ (λ (l : List ℕ) (i : side.Side model.Job). model.reply model.PENDING [] [] l (model.set_ins i (queue_of q))) (k.retired (deed_of op) f) (k.side (deed_of op) f)
+      ∙ sym (poll_in_pending n t (queue_of q) (deed_of op) f g.0 g.1))
 
-  module _ (d : not b ≡ false) (o : Opened) (k : Opens q.ins s Nothing o) where
-    pub recv_full : (a : Answer) → o.number ≡ NoNumber → Says NoRoom [] [] a → Turned q (Recv s) a q
+  module _ (o : Side) (k : Ends q.ins n o) (kept : Option ℕ) (y : option_to_list kept ≡ side.kept (stage_of op.stage)) where
+    pub polled_gone : (e : Error) → Err e ≡ takable (queue_of q) → Says (Err e) [] (option_to_list kept) a → Does (step (PollIn n t) (queue_of q)) q a (with_ins o q)
     unfolding step
-    recv_full a f u =
-        let l = alive _ b e d in
-        stays q (Recv s) NoRoom a snd u (sym (open_in_full s (queue_of q) l.0 l.1 (sym k.number ∙ ap numbered f)))
+    polled_gone e h u =
+        let g = told_gone (ring.values q.values) (model.no_sender (queue_of q)) e h in
+        moves (step (PollIn n t) (queue_of q)) q (Err (Disconnected None)) a [] (option_to_list kept) (with_ins o q) (shaped_ins q s o k.sound)
+        (subst (λ (x : Error). Says (Err x) [] (option_to_list kept) a) (sym g.2) u) refl
+        (ap₂ (λ (l : List ℕ) (i : side.Side model.Job). model.reply model.DISCONNECTED [] [] l (model.set_ins i (queue_of q))) y k.side
+        ∙ sym (poll_in_gone n t (queue_of q) (deed_of op) f g.0 g.1))
 
-    pub recv_given : (n : ℕ) (a : Answer) → o.number ≡ GivenNo n → Says (WGiven n) [] [] a → Turned q (Recv s) a (with_ins o.side q)
+    pub polled_value : (v : ℕ) (woken : Option Woken) (q' : Queue) → Ok (Some v) ≡ takable (queue_of q) → Moves (popped (queue_of (with_ins o q))) q' woken → Says (Ok (Value v)) (token_of woken) (option_to_list kept) a
+        → Does (step (PollIn n t) (queue_of q)) q a q'
     unfolding step
-    recv_given n a f u =
-        let l = alive _ b e d in
-        moves q (Recv s) (WGiven n) [] [] a (with_ins o.side q) snd (shaped_ins q snd.shaped o.side k.sound) u refl
-        (ap (λ (x : side.Side model.Job). model.reply model.GIVEN (n ∷ []) [] [] (model.set_ins x (queue_of q))) (k.side ∙ ap (λ (z : Number). opened_if (numbered z) s model.bare (side_of q.ins)) f)
-        ∙ sym (open_in_given s (queue_of q) l.0 n l.1 (sym k.number ∙ ap numbered f)))
-
--- ---- the first value
-pub first_value : (l : List ℕ) (v : ℕ) → FValue v ≡ ring.first l → l ≡ v ∷ ring.rest l
-unfolding ring.first ring.rest
-first_value [] v e = let z : ◌≡◌ {A = ℕ} 0 1 = cc in absurd (omega arith)
-first_value (x ∷ l) v e = let z : v ≡ x = cc in ap (λ (y : ℕ). y ∷ l) (sym z)
-
-pub first_nothing : (l : List ℕ) → FNothing ≡ ring.first l → l ≡ []
-unfolding ring.first
-first_nothing [] e = refl
-first_nothing (x ∷ l) e = let z : ◌≡◌ {A = ℕ} 0 1 = cc in absurd (omega arith)
-
--- what pop_front promises
-abbrev pub Pops : Queue → Popped → Type 0
-Pops q p = (p.front ≡ ring.first (ring.values q.values)) × (ring.Sound p.next) × (ring.values p.next ≡ ring.rest (ring.values q.values))
-
--- ---- passes_on
-module _ (st : Stage) (left queued : ℕ) (b : Bool) (e : b ≡ eqb (side.is_called (stage_of st)) 1) where
-  pub passes_not : b ≡ false → false ≡ passes (stage_of st) left queued
-  passes_not d = sym (ap (λ (x : Bool). x && (not (eqb left 0) && ltb 0 queued)) (sym e ∙ d))
-
-  pub passes_gone : b ≡ true → left ≡ 0 → false ≡ passes (stage_of st) left queued
-  passes_gone d z = sym (ap (λ (x : Bool). x && (not (eqb left 0) && ltb 0 queued)) (sym e ∙ d) ∙ ap (λ (x : Bool). not x && ltb 0 queued) (eq-eqb left 0 z))
-
-  pub passes_queued : b ≡ true → (left ≡ 0 → ⊥) → ltb 0 queued ≡ passes (stage_of st) left queued
-  passes_queued d z = sym (ap (λ (x : Bool). x && (not (eqb left 0) && ltb 0 queued)) (sym e ∙ d) ∙ ap (λ (x : Bool). not x && ltb 0 queued) (ne_eqb left 0 z))
+    polled_value v woken q' h m u =
+        moves (step (PollIn n t) (queue_of q)) q (Ok (Value v)) a (token_of woken) (option_to_list kept) q' m.shaped u refl
+        (ap₂ (λ (w : List ℕ) (x : model.Queue). model.reply model.VALUE (v ∷ []) w (option_to_list kept) x) m.wakes m.next
+        ∙ (ap₂ (λ (l : List ℕ) (i : side.Side model.Job). let mv = popped (model.set_ins i (queue_of q)) in model.reply model.VALUE (v ∷ []) mv.wakes l mv.next) y k.side
+        ∙ sym (poll_in_value n t (queue_of q) (deed_of op) v (ring.rest (ring.values q.values)) f (told_value (ring.values q.values) (model.no_sender (queue_of q)) v h))))
 
 -- ---- cancel_in
-pub leave_in_dead : (q : Queue) (n : ℕ) (view : View) (what : What) (a : Answer) → Sound q → Sees q.ins n view → view ≡ Missing → what ≡ dead_in (side_of q.ins).ops n → Says what [] [] a
-    → Turned q (CancelIn n) a q
-unfolding step
-leave_in_dead q n view what a snd sees e w u = refuses q (CancelIn n) (side_of q.ins).ops n what a snd w u (cancel_in_dead n (queue_of q) (sym sees ∙ ap viewed e))
+module _ (q : Queue) (snd : Sound q) (n : ℕ) (a : Answer) where
+  module _ (op : Entry) (f : Finds q.ins n (Ok op)) (o : Side) (k : Ends q.ins n o) (b : Bool) (h : b ≡ passes (stage_of op.stage) (queue_of (with_ins o q))) where
+    pub cancel_in_passed_on : (woken : Option Woken) (q' : Queue) → b ≡ true → Moves (model.notify (queue_of (with_ins o q))) q' woken → Says (Ok Done) (token_of woken) [] a → Turned q (CancelIn n) a q'
+    unfolding step
+    cancel_in_passed_on woken q' d m u =
+        does q (CancelIn n) a q' snd
+        (subst (λ (w : model.Result). Does w q a q')
+        (ap (λ (i : side.Side model.Job). model.done_by (model.notify (model.set_ins i (queue_of q)))) k.side ∙ sym (cancel_in_passed n (queue_of q) (deed_of op) f (sym h ∙ d)))
+        (done (model.notify (queue_of (with_ins o q))) q woken a q' m u))
 
-module _ (q : Queue) (snd : Sound q) (n : ℕ) (e : Entry) (sees : Sees q.ins n (Found e)) (left queued : ℕ) (g : left ≡ live (handles_of q.senders)) (h : queued ≡ length (ring.values q.values))
-    (o : Side) (x : Ends q.ins n o) (b : Bool) (y : b ≡ passes (stage_of e.stage) left queued) where
-  asked : b ≡ passes (stage_of e.stage) (live (handles_of q.senders)) (length (ring.values q.values))
-  asked = y ∙ ap₂ (λ (i j : ℕ). passes (stage_of e.stage) i j) g h
-
-  pub leave_in_passed : (r : Turn) → b ≡ true → Notifies (with_ins o q) r → Turned q (CancelIn n) r.answer r.queue
-  unfolding step
-  leave_in_passed r t u =
-      does q (CancelIn n) _ r snd u.does refl
-      (ap (λ (i : side.Side model.Job). model.done_by (model.notify (model.set_ins i (queue_of q)))) x.side
-      ∙ sym (cancel_in_passed n (queue_of q) (deed_of e) (sym sees) (sym asked ∙ t)))
-
-  pub leave_in_other : (k : OptToken) (a : Answer) → b ≡ false → token_list k ≡ side.kept (stage_of e.stage) → Says Done [] (token_list k) a → Turned q (CancelIn n) a (with_ins o q)
-  unfolding step
-  leave_in_other k a t p u =
-      moves q (CancelIn n) Done [] (token_list k) a (with_ins o q) snd (shaped_ins q snd.shaped o x.sound) u refl
-      (ap₂ (λ (l : List ℕ) (i : side.Side model.Job). model.reply model.DONE [] [] l (model.set_ins i (queue_of q))) p x.side
-      ∙ sym (cancel_in_other n (queue_of q) (deed_of e) (sym sees) (sym asked ∙ t)))
+    pub cancel_in_ended : (kept : Option ℕ) → b ≡ false → option_to_list kept ≡ side.kept (stage_of op.stage) → Says (Ok Done) [] (option_to_list kept) a → Turned q (CancelIn n) a (with_ins o q)
+    unfolding step
+    cancel_in_ended kept d y u =
+        does q (CancelIn n) a (with_ins o q) snd
+        (moves (step (CancelIn n) (queue_of q)) q (Ok Done) a [] (option_to_list kept) (with_ins o q) (shaped_ins q snd.shaped o k.sound) u refl
+        (ap₂ (λ (l : List ℕ) (i : side.Side model.Job). model.reply model.DONE [] [] l (model.set_ins i (queue_of q))) y k.side ∙ sym (cancel_in_other n (queue_of q) (deed_of op) f (sym h ∙ d))))

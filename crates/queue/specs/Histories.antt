@@ -16,7 +16,7 @@ pub data Run : Queue → List Call → List Answer → Queue → Type 0 where
   done : {q : Queue} → Run q [] [] q
   then : {q q₁ q₂ : Queue} {c : Call} {a : Answer} {cs : List Call} {al : List Answer} → Turned q c a q₁ → Run q₁ cs al q₂ → Run q (c ∷ cs) (a ∷ al) q₂
 
--- what is promised of a run from make or make-u: the answers are the definition's, and so is the queue in the end; demand 3 holds
+-- what is promised of a run from make or make-u: the answers are the definition's, and so is the queue in the end; nothing is lost
 -- of it; and it is sound, so that one more call may be made. (Each queue on the way is the end of a shorter run.)
 pub record Kept (b : Begin) (cs : List Call) (al : List Answer) (q : Queue) : Type 0 where
   pub sound : Sound q

@@ -1,6 +1,6 @@
 -- What the queue promises. Read in this order:
 --   Meaning    what a queue means, and what every call may rely on
---   Answers    document 01's number and field for each answer
+--   Answers    the specification's number and field for each answer
 --   Promise    the promise of both makes and of every call
 --   Histories  what follows for any list of calls
 --   Dumps      what the memory of the ring shows

@@ -1,25 +1,24 @@
 -- THE MEANING OF A QUEUE, and what every call may rely on: that the queue came from make or make-u and calls. Assumes nothing.
-use Rattle.std.specs.Prelude.{◌≡◌, List}
+use Rattle.std.specs.Prelude.{◌≡◌, ℕ, List, Option, None, Some}
 use Rattle.ring.specs.Values as ring
-use Rattle.tables.specs.Meaning.{handles_of, permits_of, HandlesSound, PermitsSound}
+use Rattle.tables.specs.Meaning.{handles_of, permits_of}
 use Rattle.side.specs.Meaning.{side_of}
 use Rattle.side.specs.Sound as side
 use Rattle.model.specs.Queue as model
 use Rattle.model.specs.declared.Call.{Call}
 use Rattle.model.specs.Calls.{Begin, begin, after}
 use Rattle.queue.specs.declared.Queue.{Queue}
-use Rattle.queue.specs.declared.Room.{Room}
-use Rattle.queue.specs.declared.Room.TheVariants.{Unbounded, Slots}
 
-abbrev pub room_of : Room → model.Room
-room_of Unbounded = model.unbounded
-room_of (Slots n) = model.slots n
+-- the free slots, which an unbounded queue does not count
+abbrev pub room_of : Option ℕ → model.Room
+room_of None = model.unbounded
+room_of (Some n) = model.slots n
 
 abbrev pub queue_of : Queue → model.Queue
 queue_of q = record {
   cap = q.capacity;
   values = ring.values q.values;
-  free = room_of q.free.room;
+  free = room_of q.available;
   senders = handles_of q.senders;
   receivers = handles_of q.receivers;
   outs = side_of q.outs;
@@ -27,12 +26,8 @@ queue_of q = record {
   permits = permits_of q.permits;
 }
 
--- each part is sound: kept within a call too
+-- each side is sound: kept within a call too. (What the ring and the tables keep, their types say.)
 pub record Shaped (q : Queue) : Type 0 where
-  pub values : ring.Sound q.values
-  pub senders : HandlesSound q.senders
-  pub receivers : HandlesSound q.receivers
-  pub permits : PermitsSound q.permits
   pub outs : side.Sound q.outs
   pub ins : side.Sound q.ins
 

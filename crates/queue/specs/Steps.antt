@@ -1,170 +1,200 @@
 -- THE STEPS INSIDE THE CALLS, by the definition's move of each name. Assumes nothing.
-use Rattle.std.specs.Prelude.{ℕ, ◌-◌, ◌≤◌, ◌≡◌, ◌⊎◌, Bool, true, false, not, ◌&&◌, List, [], ◌∷◌, eqb, ltb, length, if◌then◌else◌}
-use Rattle.std.proofs.Math.Option.{Option, none, some}
+use Rattle.std.specs.Prelude.{ℕ, ◌≤◌, ◌≡◌, Bool, true, false, not, ◌&&◌, List, [], ◌∷◌, eqb, ltb, length, if◌then◌else◌}
+use Rattle.std.specs.Prelude.{Option, None, Some, option_map, option_to_list, Result, Ok, Err, OnErr, ok_or}
+use Rattle.ring.specs.Values as ring
 use Rattle.tables.specs.declared.Handles.{Handles}
-use Rattle.tables.specs.Meaning.{handles_of, is_live}
-use Rattle.side.specs.declared.Cargo.{Cargo}
-use Rattle.side.specs.declared.Cargo.TheVariants.{Nothing, Value as CValue}
+use Rattle.tables.specs.Meaning.{handles_of, permits_of}
+use Rattle.tables.specs.Calls.{Leaves}
+use Rattle.side.specs.declared.Side.{Side}
 use Rattle.side.specs.declared.Entry.{Entry}
-use Rattle.side.specs.declared.View.{View}
-use Rattle.side.specs.declared.View.TheVariants.{Missing, Found}
-use Rattle.side.specs.Meaning.{stage_of}
-use Rattle.model.specs.Table.{Table, blank, lookup, was_closed, live}
+use Rattle.side.specs.declared.Woken.{Woken}
+use Rattle.side.specs.Meaning.{carried, side_of, deed_of}
+use Rattle.model.specs.Table.{Table, blank, lookup, lowest, put, was_closed, live}
 use Rattle.model.specs.Side as side
 use Rattle.model.specs.Queue as model
 use Rattle.model.specs.declared.Call.{Call}
 use Rattle.model.specs.declared.Call.TheVariants.{Reserve, Send}
 use Rattle.queue.specs.declared.Queue.{Queue}
-use Rattle.queue.specs.declared.Room.{Room}
-use Rattle.queue.specs.declared.Room.TheVariants.{Unbounded, Slots}
 use Rattle.queue.specs.declared.Counts.{Counts}
-use Rattle.queue.specs.declared.What.{What}
-use Rattle.queue.specs.declared.What.TheVariants.{Done, Discarded, Value as WValue, Given as WGiven, Pending, Status as WStatus, Full, Empty, Disconnected, BadCapacity, NoHandle, Closed, InUse, NoRoom, RingFull, WrongKind}
+use Rattle.queue.specs.declared.Success.TheVariants.{Given}
+use Rattle.queue.specs.declared.Error.{Error}
+use Rattle.queue.specs.declared.Error.TheVariants.{Full, Empty, Disconnected, NoHandle, Closed, InUse, NoRoom, RingFull, WrongKind}
 use Rattle.queue.specs.declared.Answer.{Answer}
 use Rattle.queue.specs.declared.Turn.{Turn}
-use Rattle.queue.specs.declared.available.Available.{Available}
-use Rattle.queue.specs.declared.outgoing.Outcome.{Outcome}
-use Rattle.queue.specs.declared.outgoing.Outcome.TheVariants.{NoHandle as NoOperation, Gone, Permit, Push, Stays}
 use Rattle.queue.specs.Meaning.{room_of, queue_of, Shaped}
-use Rattle.queue.specs.Answers.{code_of, field_of, ans_of, result_of}
+use Rattle.queue.specs.Answers.{Told, code_of, field_of, ans_of, result_of}
+
+-- ---- answers
+-- the token that is woken, if an operation was called
+abbrev pub token_of : Option Woken → List ℕ
+token_of woken = option_to_list (option_map (λ (w : Woken). w.token) woken)
+
+-- what is told of a new record's number
+abbrev pub number_told : Result ℕ Error → Told
+number_told (Ok n) = Ok (Given n)
+number_told (Err e) = Err e
 
 -- an answer with these wakes and this retired token
-pub record Says (what : What) (wakes retired : List ℕ) (a : Answer) : Type 0 where
+pub record Says (what : Told) (wakes retired : List ℕ) (a : Answer) : Type 0 where
   pub is : ans_of a ≡ record { code = code_of what; field = field_of what; wakes = wakes; retired = retired }
 
--- an answer and a queue that are the definition's `want`
-pub record Does (want : model.Result) (r : Turn) : Type 0 where
-  pub shaped : Shaped r.queue
-  pub is : result_of r.answer r.queue ≡ want
+-- what is told, woken and retired beside a queue
+abbrev pub told : Told → List ℕ → List ℕ → Queue → model.Result
+told what wakes retired q = model.reply (code_of what) (field_of what) wakes retired (queue_of q)
 
--- ---- moves that end a call
+-- ---- what a step leaves of the queue q
+-- an answer and a queue that are the definition's `want`; a refusal leaves q itself
+pub record Does (want : model.Result) (q : Queue) (a : Answer) (q' : Queue) : Type 0 where
+  pub shaped : Shaped q'
+  pub is : result_of a q' ≡ want
+  pub same : 20 ≤ code_of a.what → q' ≡ q
+
+-- the number of a new record and a queue that are the definition's `want`; an error leaves q itself
+pub record Gives (want : model.Result) (q : Queue) (number : Result ℕ Error) (q' : Queue) : Type 0 where
+  pub shaped : Shaped q'
+  pub is : told (number_told number) [] [] q' ≡ want
+  pub same : OnErr number (q' ≡ q)
+
+-- a move of the definition, with the operation that it called
+pub record Moves (want : model.Moved) (q' : Queue) (woken : Option Woken) : Type 0 where
+  pub shaped : Shaped q'
+  pub next : queue_of q' ≡ want.next
+  pub wakes : token_of woken ≡ want.wakes
+
+-- ---- what a call is told of a number that it names: the record is live; or it was given and is closed, or it was never given
+abbrev pub dead_by : Bool → Error
+dead_by true = Closed
+dead_by false = NoHandle
+
+abbrev pub live_by : {A : Type 0} → Option A → Bool → Result (Unit {0}) Error
+live_by None closed = Err (dead_by closed)
+live_by (Some a) closed = Ok tt
+
+abbrev pub live_in : {A : Type 0} → Table A → ℕ → Result (Unit {0}) Error
+live_in t n = live_by (lookup t n) (was_closed t n)
+
+-- the operation itself, if it is open
+abbrev pub Finds : Side → ℕ → Result Entry Error → Type 0
+Finds s n (Ok op) = lookup (side_of s).ops n ≡ Some (deed_of op)
+Finds s n (Err e) = (lookup (side_of s).ops n ≡ None) × (e ≡ dead_by (was_closed (side_of s).ops n))
+
+-- ---- handles
+-- a handle that passed or failed this test is cloned: the number of the new one
+abbrev pub cloned : Result (Unit {0}) Error → Option ℕ → Result ℕ Error
+cloned (Ok known) lowest = ok_or lowest NoRoom
+cloned (Err e) lowest = Err e
+
+abbrev pub put_given : {A : Type 0} → Result ℕ Error → A → Table A → Table A
+put_given (Ok n) a t = put t n a
+put_given (Err e) a t = t
+
+pub record ClonesIn (h : Handles) (n : ℕ) (r : Result ℕ Error) (h' : Handles) : Type 0 where
+  pub number : r ≡ cloned (live_in (handles_of h) n) (lowest (handles_of h))
+  pub table : handles_of h' ≡ put_given r tt (handles_of h)
+  pub same : OnErr r (h' ≡ h)
+
+-- a handle that passed or failed this test, and is busy or not, is closed
+abbrev pub closable : Result (Unit {0}) Error → Bool → Result (Unit {0}) Error
+closable (Ok known) busy = if busy then Err InUse else Ok tt
+closable (Err e) busy = Err e
+
+abbrev pub ClosesIn : Handles → ℕ → Bool → Result Handles Error → Type 0
+ClosesIn h n busy (Ok left) = (closable (live_in (handles_of h) n) busy ≡ Ok tt) × Leaves h n left
+ClosesIn h n busy (Err e) = closable (live_in (handles_of h) n) busy ≡ Err e
+
 -- what the last receiver's drop leaves, of the queue without that receiver; and the last sender's
 abbrev pub discarded : model.Queue → model.Result
 discarded q = model.reply model.DONE (length q.values ∷ []) (side.all_tokens q.outs) [] (model.set_values [] (model.set_outs (side.closed_line q.outs) q))
 
-pub record Discards (q : Queue) (r : Turn) : Type 0 where
-  pub does : Does (discarded (queue_of q)) r
-
 abbrev pub silenced : model.Queue → model.Result
 silenced q = model.reply model.DONE [] (side.all_tokens q.ins) [] (model.set_ins (side.closed_line q.ins) q)
 
-pub record Silences (q : Queue) (r : Turn) : Type 0 where
-  pub does : Does (silenced (queue_of q)) r
-
--- ---- what a call answers to a number that is not live: it was given and is closed, or it was never given
-abbrev pub dead_by : Bool → What
-dead_by true = Closed
-dead_by false = NoHandle
-
-abbrev pub dead_in : {A : Type 0} → Table A → ℕ → What
-dead_in t n = dead_by (was_closed t n)
-
 -- ---- what receivers are told
--- of these values, where the senders are gone or not: the first; or that none will ever come; else the answer given as `untold`
-abbrev pub takable_of : What → List ℕ → Bool → What
-takable_of untold [] gone = if gone then Disconnected Nothing else untold
-takable_of untold (v ∷ l) gone = WValue v
+-- of these values, where the senders are gone or not: the first, if there is one; or that none will ever come
+abbrev pub takable_of : List ℕ → Bool → Result (Option ℕ) Error
+takable_of [] gone = if gone then Err (Disconnected None) else Ok None
+takable_of (v ∷ l) gone = Ok (Some v)
 
-abbrev pub takable : What → model.Queue → What
-takable untold q = takable_of untold q.values (model.no_sender q)
+abbrev pub takable : model.Queue → Result (Option ℕ) Error
+takable q = takable_of q.values (model.no_sender q)
 
--- a try-recv by a receiver, which is live or not
-abbrev pub receivable_of : ℕ → Option model.Mark → model.Queue → What
-receivable_of r none q = dead_in q.receivers r
-receivable_of r (some a) q = takable Empty q
+-- a try-recv by a receiver that passed or failed its test
+abbrev pub received : Result (Option ℕ) Error → Result ℕ Error
+received (Ok front) = ok_or front Empty
+received (Err e) = Err e
 
-abbrev pub receivable : ℕ → model.Queue → What
-receivable r q = receivable_of r (lookup q.receivers r) q
+abbrev pub receivable_of : Result (Unit {0}) Error → Result (Option ℕ) Error → Result ℕ Error
+receivable_of (Ok known) taken = received taken
+receivable_of (Err e) taken = Err e
 
--- a poll-in of the operation n, which is open or not; and the token that the operation keeps
-abbrev pub pollable : ℕ → Option (side.Op model.Job) → model.Queue → What
-pollable n none q = dead_in q.ins.ops n
-pollable n (some op) q = takable Pending q
+abbrev pub receivable : ℕ → model.Queue → Result ℕ Error
+receivable r q = receivable_of (live_in q.receivers r) (takable q)
 
-abbrev pub kept_of : Option (side.Op model.Job) → List ℕ
-kept_of none = []
-kept_of (some op) = side.kept op.stage
+-- the first value goes, and its slot comes back
+abbrev pub popped : model.Queue → model.Moved
+popped q = model.release (model.set_values (ring.rest q.values) q)
+
+-- a cancelled operation at this stage passes its notice on
+abbrev pub passes : side.Stage → model.Queue → Bool
+passes st q = eqb (side.is_called st) 1 && (not (model.no_sender q) && ltb 0 (length q.values))
 
 -- ---- a free room of at most 64 slots, if it is counted
-abbrev pub Small : Room → Type 0
-Small Unbounded = Unit {0}
-Small (Slots n) = n ≤ 64
+abbrev pub Small : Option ℕ → Type 0
+Small None = Unit {0}
+Small (Some n) = n ≤ 64
 
--- ---- tests
+-- may an operation at this stage take a slot of it
 abbrev pub ready : side.Stage → model.Room → Bool
 ready st free = eqb (side.waits st) 0 && not (model.none_of free)
 
--- a cancelled operation at this stage passes its notice on
-abbrev pub passes : side.Stage → ℕ → ℕ → Bool
-passes st left queued = eqb (side.is_called st) 1 && (not (eqb left 0) && ltb 0 queued)
+-- ---- what senders are told
+-- a sender that passed or failed its test tries to send; c is what goes back where it does not go through
+abbrev pub tried : Option ℕ → Result (Unit {0}) Error → Bool → Bool → Bool → Result (Unit {0}) Error
+tried c (Ok known) gone full ring_full = if gone then Err (Disconnected c) else (if full then Err (Full c) else (if ring_full then Err RingFull else Ok tt))
+tried c (Err e) gone full ring_full = Err e
 
--- an answer that nothing stopped
-abbrev pub is_done : What → Bool
-is_done Done = true
-is_done (Discarded n) = false
-is_done (WValue v) = false
-is_done (WGiven n) = false
-is_done Pending = false
-is_done (WStatus s) = false
-is_done (Full c) = false
-is_done Empty = false
-is_done (Disconnected c) = false
-is_done BadCapacity = false
-is_done NoHandle = false
-is_done Closed = false
-is_done InUse = false
-is_done NoRoom = false
-is_done RingFull = false
-is_done WrongKind = false
+unfoldable pub sendable : Option ℕ → ℕ → model.Queue → Result (Unit {0}) Error
+sendable c s q = tried c (live_in q.senders s) (model.no_receiver q) (model.no_free q) (model.ring_full q)
 
--- ---- what a try-send of the sender s answers, by the definition's tests; c is what goes back where it does not go through
-abbrev pub tried : Cargo → Bool → Bool → Bool → Bool → Bool → What
-tried c closed known gone full ring_full = if known then (if gone then Disconnected c else (if full then Full c else (if ring_full then RingFull else Done))) else dead_by closed
+-- and tries to reserve: on an unbounded queue nothing can be reserved
+abbrev pub counted_by : Result (Unit {0}) Error → Bool → Result (Unit {0}) Error
+counted_by (Ok known) unbounded = if unbounded then Err WrongKind else Ok tt
+counted_by (Err e) unbounded = Err e
 
-unfoldable pub sends : Cargo → ℕ → model.Queue → What
-sends c s q = tried c (was_closed q.senders s) (is_live (lookup q.senders s)) (model.no_receiver q) (model.no_free q) (model.ring_full q)
+unfoldable pub counted : ℕ → model.Queue → Result (Unit {0}) Error
+counted s q = counted_by (live_in q.senders s) (model.is_unbounded q)
 
--- ---- and a try-res: on an unbounded queue nothing can be reserved
-unfoldable pub reserves : ℕ → model.Queue → What
-reserves s q = if is_live (lookup q.senders s) && model.is_unbounded q then WrongKind else sends Nothing s q
+-- a permit of the sender s is given, if a number is left for one, and then this is the free room
+pub record GivesPermit (q : Queue) (s : ℕ) (left : Option ℕ) (r : Result ℕ Error) (q' : Queue) : Type 0 where
+  pub shaped : Shaped q'
+  pub number : r ≡ ok_or (lowest (permits_of q.permits)) NoRoom
+  pub given : (n : ℕ) → r ≡ Ok n → queue_of q' ≡ model.set_permits (put (permits_of q.permits) n s) (model.set_free (room_of left) (queue_of q))
+  pub same : OnErr r (q' ≡ q)
 
--- ---- what a poll of an outgoing operation comes to
--- an operation that has its slot, by what it carries; `rest` is the free room that is left
-abbrev pub with_slot : Cargo → ℕ → Available → Outcome
-with_slot Nothing owner rest = Permit owner rest
-with_slot (CValue v) owner rest = Push v rest
+-- the operation n, with what it carries and its sender, has its slot, and this is the free room
+abbrev pub completed : ℕ → Option ℕ → ℕ → Option ℕ → model.Queue → model.Result
+completed n c s left q = model.complete (carried c) s q (model.set_free (room_of left) (model.set_outs (side.ended n q.outs) q))
 
-abbrev pub granted : Entry → Bool
-granted e = eqb (side.is_called (stage_of e.stage)) 1
+-- an operation that was at this stage is cancelled
+abbrev pub cancelled : side.Stage → model.Queue → model.Result
+cancelled st q = if eqb (side.is_called st) 1 then model.done_by (model.release q) else model.reply model.DONE [] [] (side.kept st) q
 
--- its slot is its grant, or one of the free ones
-abbrev pub Slot : Entry → Available → Available → Type 0
-Slot e free rest = ((granted e ≡ true) × (rest ≡ free)) ⊎ ((granted e ≡ false) × (ready (stage_of e.stage) (room_of free.room) ≡ true) × (room_of rest.room ≡ model.recount (λ n. n - 1) (room_of free.room)))
-
--- by what is seen of the operation, the receivers left and the free room
-abbrev pub Comes : View → ℕ → Available → Outcome → Type 0
-Comes view left free NoOperation = view ≡ Missing
-Comes view left free (Gone c) = (e : Entry) × (view ≡ Found e) × (left ≡ 0) × (e.cargo ≡ c)
-Comes view left free (Permit s rest) = (e : Entry) × (view ≡ Found e) × (left ≡ 0 → ⊥) × (e.cargo ≡ Nothing) × (e.owner ≡ s) × Slot e free rest
-Comes view left free (Push v rest) = (e : Entry) × (view ≡ Found e) × (left ≡ 0 → ⊥) × (e.cargo ≡ CValue v) × Slot e free rest
-Comes view left free Stays = (e : Entry) × (view ≡ Found e) × (left ≡ 0 → ⊥) × (granted e ≡ false) × (ready (stage_of e.stage) (room_of free.room) ≡ false)
-
--- ---- which call opens an operation with this cargo
-abbrev pub opening : Cargo → ℕ → Call
-opening Nothing s = Reserve s
-opening (CValue v) s = Send s v
+-- which call opens an operation with this cargo
+abbrev pub opening : Option ℕ → ℕ → Call
+opening None s = Reserve s
+opening (Some v) s = Send s v
 
 -- ---- the counts
 pub record Counted (q : Queue) (r : Counts) : Type 0 where
   pub queued : r.queued ≡ length (queue_of q).values
-  pub free : r.free ≡ q.free.room
+  pub free : r.free ≡ q.available
   pub permits : r.permits ≡ live (queue_of q).permits
   pub granted : r.granted ≡ side.called_count (queue_of q).outs
   pub lined : r.lined ≡ length (queue_of q).outs.line
   pub waiting : r.waiting ≡ side.polled_count (queue_of q).ins
 
 -- ---- a queue with nothing in it, and these handles on both sides
-pub record Blank (c : ℕ) (f : Room) (h : Handles) (r : Queue) : Type 0 where
+pub record Blank (c : ℕ) (f : Option ℕ) (h : Handles) (r : Queue) : Type 0 where
   pub shaped : Shaped r
   pub is : queue_of r ≡ record {
     cap = c;
@@ -176,3 +206,8 @@ pub record Blank (c : ℕ) (f : Room) (h : Handles) (r : Queue) : Type 0 where
     ins = record { ops = blank 32; line = [] };
     permits = blank 64;
   }
+
+-- an answer Done beside a fresh queue of a capacity and a free room
+pub record Begun (c : ℕ) (f : Option ℕ) (r : Turn) : Type 0 where
+  pub shaped : Shaped r.queue
+  pub is : result_of r.answer r.queue ≡ model.reply model.DONE [] [] [] (model.fresh c (room_of f))

@@ -1,64 +1,28 @@
-// The free room of a queue: `available` of src/mpmc/queue.rs of asyncband 0.7.4, an Option of a number there.
+// The free slots of a queue, counted where it is bounded: `available` of src/mpmc/queue.rs of asyncband 0.7.4.
 ghost use Rattle.std.specs.Prelude.{◌≡◌, false, ◌+◌, ◌-◌};
 ghost use Rattle.model.specs.Queue as model;
 ghost use Rattle.queue.specs.Meaning.{room_of};
 ghost use Rattle.queue.specs.Steps.{Small};
 
-use crate::Room;
-
-// A record around the case, since a queue's field can be written in place if it is a record or a number.
-#[derive(Clone, Copy)]
-pub struct Available {
-    pub(crate) room: Room,
+// Is no slot free? An unbounded queue is never full.
+pub(crate) fn is_full(available: Option<u32>) -> bool
+    ensures { result ≡ model.none_of (room_of available) }
+{
+    available == Some(0)
 }
 
-impl Available {
-    pub(crate) fn is_unbounded(self) -> bool
-        ensures { result ≡ model.uncounted (room_of self.room) }
-    {
-        let room = self.room;
-        match room {
-            Room::Unbounded => true,
-            Room::Slots(_) => false,
-        }
-    }
+// One slot less, where slots are counted.
+pub(crate) fn less(available: Option<u32>) -> Option<u32>
+    requires { model.none_of (room_of available) ≡ false }
+    ensures { room_of result ≡ model.recount (λ n. n - 1) (room_of available) }
+{
+    available.map(|n| n - 1)
+}
 
-    // Is no slot free? An unbounded queue is never full.
-    pub(crate) fn is_none(self) -> bool
-        ensures { result ≡ model.none_of (room_of self.room) }
-    {
-        let room = self.room;
-        match room {
-            Room::Unbounded => false,
-            Room::Slots(n) => n == 0,
-        }
-    }
-
-    // One slot less, where there is one.
-    pub(crate) fn less(self) -> Available
-        requires { model.none_of (room_of self.room) ≡ false }
-        ensures { room_of result.room ≡ model.recount (λ n. n - 1) (room_of self.room) }
-    {
-        let room = self.room;
-        match room {
-            Room::Unbounded => self,
-            Room::Slots(n) => Available {
-                room: Room::Slots(n - 1),
-            },
-        }
-    }
-
-    // One slot more.
-    pub(crate) fn more(self) -> Available
-        requires { Small self.room }
-        ensures { room_of result.room ≡ model.recount (λ n. n + 1) (room_of self.room) }
-    {
-        let room = self.room;
-        match room {
-            Room::Unbounded => self,
-            Room::Slots(n) => Available {
-                room: Room::Slots(n + 1),
-            },
-        }
-    }
+// One slot more, where slots are counted.
+pub(crate) fn more(available: Option<u32>) -> Option<u32>
+    requires { Small available }
+    ensures { room_of result ≡ model.recount (λ n. n + 1) (room_of available) }
+{
+    available.map(|n| n + 1)
 }

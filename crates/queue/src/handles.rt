@@ -5,47 +5,43 @@ ghost use Rattle.model.specs.Queue as model;
 ghost use Rattle.model.specs.declared.Call.TheVariants.{CloneS, CloneR, DropS, DropR};
 ghost use Rattle.queue.specs.Meaning.{queue_of, Shaped, Sound};
 ghost use Rattle.queue.specs.Promise.{Turned};
-ghost use Rattle.queue.specs.Steps.{Silences, Discards};
+ghost use Rattle.queue.specs.Steps.{ClonesIn, ClosesIn, Does, silenced, discarded};
 
-use crate::dead::dead_handle;
-use crate::says::plain;
-use crate::{Answer, Queue, Turn, What};
-use side::OptToken;
-use tables::Number;
+use crate::known::live;
+use crate::moves::taken;
+use crate::says::{given, plain};
+use crate::{Answer, Error, Queue, Success, Turn};
+use tables::{Handles, Numbered};
+
+// A new handle beside the live handle n: its number.
+fn cloned(handles: &mut Handles, n: u32) -> Result<u32, Error>
+    ensures { ClonesIn handles.old n result handles.new }
+{
+    live(*handles, n)?;
+    let opened = handles.open();
+    taken(handles, opened)
+}
+
+// The handles without the live handle n, which may still have a record of its own that is open.
+fn closed(handles: Handles, n: u32, busy: bool) -> Result<Handles, Error>
+    ensures { ClosesIn handles n busy result }
+{
+    live(handles, n)?;
+    if busy {
+        return Err(Error::InUse);
+    }
+    Ok(handles.close(n))
+}
 
 impl Queue {
     pub fn clone_s(mut self, n: u32) -> Turn
         requires { Sound self }
         ensures { Turned self (CloneS n) result.answer result.queue }
     {
-        let handles = self.senders;
-        if !handles.has(n) {
-            let what = dead_handle(handles, n);
-            let answer = plain(what);
-            return Turn {
-                answer: answer,
-                queue: self,
-            };
-        }
-        let cloned = handles.open();
-        let number = cloned.number;
-        let more = cloned.handles;
-        match number {
-            Number::NoRoom => {
-                let answer = plain(What::NoRoom);
-                Turn {
-                    answer: answer,
-                    queue: self,
-                }
-            }
-            Number::Given(k) => {
-                self.senders = more;
-                let answer = plain(What::Given(k));
-                Turn {
-                    answer: answer,
-                    queue: self,
-                }
-            }
+        let number = cloned(&mut self.senders, n);
+        Turn {
+            answer: given(number),
+            queue: self,
         }
     }
 
@@ -53,34 +49,10 @@ impl Queue {
         requires { Sound self }
         ensures { Turned self (CloneR n) result.answer result.queue }
     {
-        let handles = self.receivers;
-        if !handles.has(n) {
-            let what = dead_handle(handles, n);
-            let answer = plain(what);
-            return Turn {
-                answer: answer,
-                queue: self,
-            };
-        }
-        let cloned = handles.open();
-        let number = cloned.number;
-        let more = cloned.handles;
-        match number {
-            Number::NoRoom => {
-                let answer = plain(What::NoRoom);
-                Turn {
-                    answer: answer,
-                    queue: self,
-                }
-            }
-            Number::Given(k) => {
-                self.receivers = more;
-                let answer = plain(What::Given(k));
-                Turn {
-                    answer: answer,
-                    queue: self,
-                }
-            }
+        let number = cloned(&mut self.receivers, n);
+        Turn {
+            answer: given(number),
+            queue: self,
         }
     }
 
@@ -89,33 +61,28 @@ impl Queue {
         requires { Shaped self }
         ensures { result ≡ model.sender_busy n (queue_of self) }
     {
-        let permits = self.permits;
-        let held = permits.owned_by(n);
-        if 0 < held {
-            return true;
-        }
-        let outs = self.outs;
-        let open = outs.owned_by(n);
-        0 < open
+        0 < self.permits.owned_by(n) || 0 < self.outs.owned_by(n)
+    }
+
+    // Has this receiver an incoming operation?
+    fn receiver_busy(self, n: u32) -> bool
+        requires { Shaped self }
+        ensures { result ≡ model.receiver_busy n (queue_of self) }
+    {
+        0 < self.ins.owned_by(n)
     }
 
     // The last sender has left: the line of receivers is closed for good.
-    fn silence(mut self) -> Turn
-        requires { Shaped self }
-        ensures { Silences self result }
+    fn silence(&mut self) -> Answer
+        requires { Shaped self.old }
+        ensures { Does (silenced (queue_of self.old)) self.old result self.new }
     {
-        let ins = self.ins;
-        let closed = ins.close_line();
-        let wakes = closed.wakes;
-        let side = closed.side;
-        self.ins = side;
-        Turn {
-            answer: Answer {
-                what: What::Done,
-                wakes: wakes,
-                retired: OptToken::NoToken,
-            },
-            queue: self,
+        let closed = self.ins.close_line();
+        self.ins = closed.side;
+        Answer {
+            what: Ok(Success::Done),
+            wakes: closed.wakes,
+            retired: None,
         }
     }
 
@@ -123,56 +90,36 @@ impl Queue {
         requires { Sound self }
         ensures { Turned self (DropS n) result.answer result.queue }
     {
-        let senders = self.senders;
-        if !senders.has(n) {
-            let what = dead_handle(senders, n);
-            let answer = plain(what);
-            return Turn {
-                answer: answer,
-                queue: self,
-            };
-        }
-        if self.sender_busy(n) {
-            let answer = plain(What::InUse);
-            return Turn {
-                answer: answer,
-                queue: self,
-            };
-        }
-        let fewer = senders.close(n);
-        self.senders = fewer;
-        let left = fewer.count();
-        if left == 0 {
-            return self.silence();
-        }
-        let answer = plain(What::Done);
+        let answer = match closed(self.senders, n, self.sender_busy(n)) {
+            Err(error) => plain(Err(error)),
+            Ok(left) => {
+                self.senders = left;
+                if left.count() == 0 {
+                    self.silence()
+                } else {
+                    plain(Ok(Success::Done))
+                }
+            }
+        };
         Turn {
-            answer: answer,
+            answer,
             queue: self,
         }
     }
 
     // The last receiver has left: the line of senders is closed for good, and the values are discarded.
-    fn discard(mut self) -> Turn
-        requires { Shaped self }
-        ensures { Discards self result }
+    fn discard(&mut self) -> Answer
+        requires { Shaped self.old }
+        ensures { Does (discarded (queue_of self.old)) self.old result self.new }
     {
-        let values = self.values;
-        let queued = values.len();
-        let gone = queued as u32;
-        self.values = values.clear();
-        let outs = self.outs;
-        let closed = outs.close_line();
-        let wakes = closed.wakes;
-        let side = closed.side;
-        self.outs = side;
-        Turn {
-            answer: Answer {
-                what: What::Discarded(gone),
-                wakes: wakes,
-                retired: OptToken::NoToken,
-            },
-            queue: self,
+        let gone = self.queued();
+        self.values = self.values.clear();
+        let closed = self.outs.close_line();
+        self.outs = closed.side;
+        Answer {
+            what: Ok(Success::Discarded(gone)),
+            wakes: closed.wakes,
+            retired: None,
         }
     }
 
@@ -180,33 +127,19 @@ impl Queue {
         requires { Sound self }
         ensures { Turned self (DropR n) result.answer result.queue }
     {
-        let receivers = self.receivers;
-        if !receivers.has(n) {
-            let what = dead_handle(receivers, n);
-            let answer = plain(what);
-            return Turn {
-                answer: answer,
-                queue: self,
-            };
-        }
-        let ins = self.ins;
-        let open = ins.owned_by(n);
-        if 0 < open {
-            let answer = plain(What::InUse);
-            return Turn {
-                answer: answer,
-                queue: self,
-            };
-        }
-        let fewer = receivers.close(n);
-        self.receivers = fewer;
-        let left = fewer.count();
-        if left == 0 {
-            return self.discard();
-        }
-        let answer = plain(What::Discarded(0));
+        let answer = match closed(self.receivers, n, self.receiver_busy(n)) {
+            Err(error) => plain(Err(error)),
+            Ok(left) => {
+                self.receivers = left;
+                if left.count() == 0 {
+                    self.discard()
+                } else {
+                    plain(Ok(Success::Discarded(0)))
+                }
+            }
+        };
         Turn {
-            answer: answer,
+            answer,
             queue: self,
         }
     }

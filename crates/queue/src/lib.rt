@@ -1,33 +1,34 @@
 // The queue, bounded or unbounded, after src/mpmc/queue.rs, src/mpmc/bounded.rs and src/mpmc/unbounded.rs of asyncband 0.7.4: its record,
 // `make` and `make_u`, a method for each call, and one dispatcher over the calls.
 // The meaning of a queue is the definition's (`queue_of`, specs/Meaning.antt), the promise of every call is `Turned` and that of both makes `Made`
-// (specs/Promise.antt); answers have document 01's numbers by specs/Answers.antt.
+// (specs/Promise.antt); answers have the specification's numbers by specs/Answers.antt.
 #![tactic(auto)]
 
 mod available;
-mod dead;
 mod handles;
 mod incoming;
+mod known;
+mod moves;
 mod outgoing;
 mod says;
 mod status;
 
-ghost use Rattle.tables.specs.Meaning.{HandlesSound};
 ghost use Rattle.model.specs.Calls.{by_make, by_make_u};
 ghost use Rattle.queue.specs.Meaning.{Sound};
 ghost use Rattle.queue.specs.Promise.{Turned, Made};
-ghost use Rattle.queue.specs.Steps.{Blank};
+ghost use Rattle.queue.specs.Steps.{Blank, Begun};
 
-use available::Available;
 use model::Call;
 use ring::Ring;
 use says::plain;
-use side::{Cargo, OptToken, Side};
+use side::Side;
 use tables::{Handles, Permits};
 use wakes::Wakes;
 
 // Only the makes and the calls give a queue, and nobody else reads or writes its fields. Their order is for speed: what calls seldom touch lies
-// together and is copied in one piece.
+// together and is copied in one piece. The free slots are not counted where the queue is unbounded.
+// What every queue keeps, `Sound`, stands in the clauses and not in a ghost field: it holds the calls that led to the queue and its sides' own
+// `Sound`, and a ghost field takes a bare fact alone.
 #[derive(Clone, Copy)]
 pub struct Queue {
     outs: Side,
@@ -35,16 +36,9 @@ pub struct Queue {
     permits: Permits,
     receivers: Handles,
     senders: Handles,
-    free: Available,
+    available: Option<u32>,
     capacity: u32,
     values: Ring,
-}
-
-// A bounded queue counts its free slots; an unbounded one has no room to count.
-#[derive(Clone, Copy)]
-pub enum Room {
-    Slots(u32),
-    Unbounded,
 }
 
 // What status tells, in its order: values queued, free room, live permits, operations with a grant, senders in line, and incoming operations
@@ -52,24 +46,30 @@ pub enum Room {
 #[derive(Clone, Copy)]
 pub struct Counts {
     pub queued: u32,
-    pub free: Room,
+    pub free: Option<u32>,
     pub permits: u32,
     pub granted: u32,
     pub lined: u32,
     pub waiting: u32,
 }
 
+// How a call succeeded.
 #[derive(Clone, Copy)]
-pub enum What {
+pub enum Success {
     Done,
     Discarded(u32),
     Value(u32),
     Given(u32),
     Pending,
     Status(Counts),
-    Full(Cargo),
+}
+
+// Why it did not: the crate's own errors first, with the value that goes back, and then the refusals, which change nothing.
+#[derive(Clone, Copy)]
+pub enum Error {
+    Full(Option<u32>),
     Empty,
-    Disconnected(Cargo),
+    Disconnected(Option<u32>),
     BadCapacity,
     NoHandle,
     Closed,
@@ -81,9 +81,9 @@ pub enum What {
 
 #[derive(Clone, Copy)]
 pub struct Answer {
-    pub what: What,
+    pub what: Result<Success, Error>,
     pub wakes: Wakes,
-    pub retired: OptToken,
+    pub retired: Option<u32>,
 }
 
 #[derive(Clone, Copy)]
@@ -96,23 +96,30 @@ impl Queue {
     pub const LARGEST: u32 = 64;
 
     // A queue with nothing in it, these senders and these receivers.
-    fn blank(capacity: u32, room: Room, handles: Handles) -> Queue
-        requires { HandlesSound handles }
-        ensures { Blank capacity room handles result }
+    fn blank(capacity: u32, available: Option<u32>, handles: Handles) -> Queue
+        ensures { Blank capacity available handles result }
     {
-        let values = Ring::fresh();
-        let permits = Permits::fresh();
-        let free = Available { room: room };
         let side = Side::fresh();
         Queue {
             outs: side,
-            capacity: capacity,
-            free: free,
-            senders: handles,
-            receivers: handles,
             ins: side,
-            values: values,
-            permits: permits,
+            permits: Permits::fresh(),
+            receivers: handles,
+            senders: handles,
+            available,
+            capacity,
+            values: Ring::fresh(),
+        }
+    }
+
+    // A make that is not refused: sender 0 and receiver 0 are there.
+    fn begun(capacity: u32, available: Option<u32>) -> Turn
+        ensures { Begun capacity available result }
+    {
+        let first = Handles::fresh().open().next;
+        Turn {
+            answer: plain(Ok(Success::Done)),
+            queue: Queue::blank(capacity, available, first),
         }
     }
 
@@ -120,46 +127,21 @@ impl Queue {
     pub fn make(capacity: u32) -> Turn
         ensures { Made (by_make capacity) result.answer result.queue }
     {
-        let none = Handles::fresh();
-        if capacity == 0 {
-            let queue = Queue::blank(0, Room::Slots(0), none);
-            let answer = plain(What::BadCapacity);
+        if capacity == 0 || Queue::LARGEST < capacity {
             return Turn {
-                answer: answer,
-                queue: queue,
+                answer: plain(Err(Error::BadCapacity)),
+                queue: Queue::blank(0, Some(0), Handles::fresh()),
             };
         }
-        if Queue::LARGEST < capacity {
-            let queue = Queue::blank(0, Room::Slots(0), none);
-            let answer = plain(What::BadCapacity);
-            return Turn {
-                answer: answer,
-                queue: queue,
-            };
-        }
-        let opened = none.open();
-        let first = opened.handles;
-        let queue = Queue::blank(capacity, Room::Slots(capacity), first);
-        let answer = plain(What::Done);
-        Turn {
-            answer: answer,
-            queue: queue,
-        }
+        Queue::begun(capacity, Some(capacity))
     }
 
     // A new unbounded queue with sender 0 and receiver 0. It holds what its ring holds: 64 values.
+    #[tactic(auto, unfolding(model::specs::Calls::make_u, model::specs::Calls::after))]
     pub fn make_u() -> Turn
         ensures { Made by_make_u result.answer result.queue }
     {
-        let none = Handles::fresh();
-        let opened = none.open();
-        let first = opened.handles;
-        let queue = Queue::blank(Queue::LARGEST, Room::Unbounded, first);
-        let answer = plain(What::Done);
-        Turn {
-            answer: answer,
-            queue: queue,
-        }
+        Queue::begun(Queue::LARGEST, None)
     }
 
     // Any call, by its name and numbers.

@@ -1,452 +1,284 @@
 // What senders do: try-send, permits, and the operations reserve and send. After src/mpmc/queue.rs of asyncband 0.7.4 (State::acquire,
-// State::release, State::push, Reserve, Permit).
-ghost use Rattle.std.specs.Prelude.{◌≡◌};
-ghost use Rattle.side.specs.declared.View.TheVariants.{Found};
+// State::push, Reserve, Permit).
+ghost use Rattle.std.specs.Prelude.{◌≡◌, ◌<◌, Ok, length};
 ghost use Rattle.side.specs.Meaning.{stage_of};
 ghost use Rattle.model.specs.Queue as model;
+ghost use Rattle.model.specs.Calls.{step};
 ghost use Rattle.model.specs.declared.Call.TheVariants.{TrySend, TryRes, Reserve, Send, PollOut, CancelOut, PermitSend, PermitDrop};
 ghost use Rattle.queue.specs.Meaning.{room_of, queue_of, Shaped, Sound};
 ghost use Rattle.queue.specs.Promise.{Turned};
-ghost use Rattle.queue.specs.Steps.{opening, ready, is_done, sends, reserves, with_slot, Comes};
+ghost use Rattle.queue.specs.Steps.{Small, opening, ready, counted, sendable, completed, cancelled, Finds, Does, Gives, GivesPermit};
 
-use crate::available::Available;
-use crate::dead::{dead_handle, dead_operation, dead_permit};
-use crate::says::{plain, say};
-use crate::{Queue, Turn, What};
+use crate::available::{is_full, less};
+use crate::known::{live, open_operation};
+use crate::moves::taken;
+use crate::says::{done, given, plain, say};
+use crate::{Answer, Error, Queue, Success, Turn};
 use ring::Ring;
-use side::{Cargo, Entry, OptToken, Stage, View, Woken};
-use tables::Number;
+use side::{Entry, Stage};
+use tables::Numbered;
 
 // May an operation at this stage take a free slot? Not one that waits in line.
-fn is_ready(stage: Stage, free: Available) -> bool
-    ensures { result ≡ ready (stage_of stage) (room_of free.room) }
+fn is_ready(stage: Stage, available: Option<u32>) -> bool
+    ensures { result ≡ ready (stage_of stage) (room_of available) }
 {
-    let full = free.is_none();
-    match stage {
-        Stage::Waiting(_) => false,
-        Stage::Idle => !full,
-        Stage::Called => !full,
-        Stage::Void => !full,
-    }
-}
-
-// What a poll of an outgoing operation comes to. `free` is the room that is left once the operation has its slot.
-#[derive(Clone, Copy)]
-enum Outcome {
-    NoHandle,
-    Gone(Cargo),
-    Permit { owner: u32, free: Available },
-    Push { value: u32, free: Available },
-    Stays,
-}
-
-// An operation that has its slot: a reserve comes to a permit of its sender, a send to a push.
-fn with_slot(cargo: Cargo, owner: u32, free: Available) -> Outcome
-    ensures { result ≡ with_slot cargo owner free }
-{
-    match cargo {
-        Cargo::Nothing => Outcome::Permit {
-            owner: owner,
-            free: free,
-        },
-        Cargo::Value(v) => Outcome::Push {
-            value: v,
-            free: free,
-        },
-    }
-}
-
-fn outcome_open(op: Entry, left: u32, free: Available) -> Outcome
-    ensures { Comes (Found op) left free result }
-{
-    let cargo = op.cargo;
-    let stage = op.stage;
-    let owner = op.owner;
-    if left == 0 {
-        return Outcome::Gone(cargo);
-    }
-    if stage.is_called() {
-        return with_slot(cargo, owner, free);
-    }
-    if is_ready(stage, free) {
-        let rest = free.less();
-        return with_slot(cargo, owner, rest);
-    }
-    Outcome::Stays
-}
-
-fn outcome_of(view: View, left: u32, free: Available) -> Outcome
-    ensures { Comes view left free result }
-{
-    match view {
-        View::Missing => Outcome::NoHandle,
-        View::Found(op) => outcome_open(op, left, free),
-    }
-}
-
-// Did nothing stop the call? Only then is the queue changed.
-fn is_done(what: What) -> bool
-    ensures { result ≡ is_done what }
-{
-    match what {
-        What::Done => true,
-        What::Discarded(_) => false,
-        What::Value(_) => false,
-        What::Given(_) => false,
-        What::Pending => false,
-        What::Status(_) => false,
-        What::Full(_) => false,
-        What::Empty => false,
-        What::Disconnected(_) => false,
-        What::BadCapacity => false,
-        What::NoHandle => false,
-        What::Closed => false,
-        What::InUse => false,
-        What::NoRoom => false,
-        What::RingFull => false,
-        What::WrongKind => false,
-    }
+    !matches!(stage, Stage::Waiting(_)) && !is_full(available)
 }
 
 impl Queue {
-    // What a try-send or a try-res of this sender answers: Done, or why not. `cargo` is what goes back where it is not sent.
-    fn sendable(self, s: u32, cargo: Cargo) -> What
-        requires { Shaped self }
-        ensures { result ≡ sends cargo s (queue_of self) }
-    {
-        let senders = self.senders;
-        if senders.has(s) {
-            let receivers = self.receivers;
-            let left = receivers.count();
-            if left == 0 {
-                return What::Disconnected(cargo);
-            }
-            let free = self.free;
-            if free.is_none() {
-                return What::Full(cargo);
-            }
-            if self.ring_is_full() {
-                return What::RingFull;
-            }
-            return What::Done;
-        }
-        dead_handle(senders, s)
-    }
-
     // Does an unbounded queue hold all that its ring holds?
     fn ring_is_full(self) -> bool
-        requires { Shaped self }
         ensures { result ≡ model.ring_full (queue_of self) }
     {
-        let free = self.free;
-        if free.is_unbounded() {
-            let values = self.values;
-            let queued = values.len();
-            return Ring::LIMIT <= queued;
-        }
-        false
+        self.available.is_none() && Ring::LIMIT <= self.values.len()
     }
 
-    // What a try-res of this sender answers: on an unbounded queue nothing can be reserved.
-    fn reservable(self, s: u32) -> What
-        requires { Shaped self }
-        ensures { result ≡ reserves s (queue_of self) }
+    // Does a value or a permit of this sender find a slot? `cargo` is what goes back where it does not.
+    #[tactic(auto, unfolding(crate::specs::Steps::sendable))]
+    fn sendable(self, s: u32, cargo: Option<u32>) -> Result<(), Error>
+        ensures { result ≡ sendable cargo s (queue_of self) }
     {
-        let senders = self.senders;
-        if senders.has(s) {
-            let free = self.free;
-            if free.is_unbounded() {
-                return What::WrongKind;
-            }
+        live(self.senders, s)?;
+        if self.receivers.count() == 0 {
+            return Err(Error::Disconnected(cargo));
         }
-        self.sendable(s, Cargo::Nothing)
+        if is_full(self.available) {
+            return Err(Error::Full(cargo));
+        }
+        if self.ring_is_full() {
+            return Err(Error::RingFull);
+        }
+        Ok(())
     }
 
-    // Decided first, changed in place, put together once: so the record is copied once into `self` and once into the answer.
+    // Is it a live sender of a queue that counts its slots? On an unbounded one nothing is reserved, and no sender waits.
+    #[tactic(auto, unfolding(crate::specs::Steps::counted))]
+    fn counted(self, s: u32) -> Result<(), Error>
+        ensures { result ≡ counted s (queue_of self) }
+    {
+        live(self.senders, s)?;
+        if self.available.is_none() {
+            return Err(Error::WrongKind);
+        }
+        Ok(())
+    }
+
     pub fn try_send(mut self, s: u32, v: u32) -> Turn
         requires { Sound self }
         ensures { Turned self (TrySend s v) result.answer result.queue }
     {
-        let what = self.sendable(s, Cargo::Value(v));
-        let mut woken = Woken::Nobody;
-        if is_done(what) {
-            let free = self.free;
-            self.free = free.less();
-            let values = self.values;
-            self.values = values.push_back(v);
-            let ins = self.ins;
-            if ins.line_is_empty() {} else {
-                let called = ins.call_first();
-                woken = called.woken;
-                let side = called.side;
-                self.ins = side;
+        let answer = match self.sendable(s, Some(v)) {
+            Err(error) => plain(Err(error)),
+            Ok(()) => {
+                self.available = less(self.available);
+                let woken = self.push(v);
+                done(woken)
             }
-        }
-        let answer = say(what, woken, OptToken::NoToken);
+        };
         Turn {
-            answer: answer,
+            answer,
             queue: self,
         }
     }
 
-    // A slot is taken only once a number for the permit is found.
+    // A permit of this sender: its number, if one is left. Only then is a slot taken, which leaves these.
+    fn give_permit(&mut self, owner: u32, available: Option<u32>) -> Result<u32, Error>
+        requires { Shaped self.old }
+        ensures { GivesPermit self.old owner available result self.new }
+    {
+        let opened = self.permits.open(owner);
+        let number = taken(&mut self.permits, opened)?;
+        self.available = available;
+        Ok(number)
+    }
+
+    // A permit at once: its number.
+    #[tactic(auto, unfolding(model::specs::Calls::step, model::specs::Calls::try_res, crate::specs::Steps::sendable, crate::specs::Steps::counted))]
+    fn reserved(&mut self, s: u32) -> Result<u32, Error>
+        requires { Shaped self.old }
+        ensures { Gives (step (TryRes s) (queue_of self.old)) self.old result self.new }
+    {
+        self.counted(s)?;
+        self.sendable(s, None)?;
+        let left = less(self.available);
+        self.give_permit(s, left)
+    }
+
+    #[tactic(auto, using(crate::proofs::Settled::gives))]
     pub fn try_res(mut self, s: u32) -> Turn
         requires { Sound self }
         ensures { Turned self (TryRes s) result.answer result.queue }
     {
-        let mut what = self.reservable(s);
-        if is_done(what) {
-            let permits = self.permits;
-            let opened = permits.open(s);
-            let number = opened.number;
-            match number {
-                Number::NoRoom => {
-                    what = What::NoRoom;
-                }
-                Number::Given(p) => {
-                    let free = self.free;
-                    self.free = free.less();
-                    let table = opened.permits;
-                    self.permits = table;
-                    what = What::Given(p);
-                }
-            }
-        }
-        let answer = plain(what);
+        let number = self.reserved(s);
         Turn {
-            answer: answer,
+            answer: given(number),
             queue: self,
         }
     }
 
-    // A reserve or a send is opened, by what it carries. Like the calls below it changes the queue in place and puts the turn together once, at
-    // its end, so that the record is copied no more than it must be.
-    fn open_out(mut self, s: u32, cargo: Cargo) -> Turn
-        requires { Sound self }
-        ensures { Turned self (opening cargo s) result.answer result.queue }
+    // A reserve or a send is opened, by what it carries: its number.
+    #[tactic(auto, unfolding(model::specs::Calls::step, model::specs::Calls::open_out, crate::specs::Steps::counted))]
+    fn open_out(&mut self, s: u32, cargo: Option<u32>) -> Result<u32, Error>
+        requires { Shaped self.old }
+        ensures { Gives (step (opening cargo s) (queue_of self.old)) self.old result self.new }
     {
-        let mut what = What::NoHandle;
-        let senders = self.senders;
-        if senders.has(s) {
-            let free = self.free;
-            if free.is_unbounded() {
-                what = What::WrongKind;
-            } else {
-                let outs = self.outs;
-                let opened = outs.open(s, cargo);
-                let number = opened.number;
-                match number {
-                    Number::NoRoom => {
-                        what = What::NoRoom;
-                    }
-                    Number::Given(n) => {
-                        let side = opened.side;
-                        self.outs = side;
-                        what = What::Given(n);
-                    }
-                }
-            }
-        } else {
-            what = dead_handle(senders, s);
-        }
-        let answer = plain(what);
-        Turn {
-            answer: answer,
-            queue: self,
-        }
+        self.counted(s)?;
+        let opened = self.outs.open(s, cargo);
+        taken(&mut self.outs, opened)
     }
 
-    pub fn reserve(self, s: u32) -> Turn
+    #[tactic(auto, using(crate::proofs::Settled::gives))]
+    pub fn reserve(mut self, s: u32) -> Turn
         requires { Sound self }
         ensures { Turned self (Reserve s) result.answer result.queue }
     {
-        self.open_out(s, Cargo::Nothing)
+        let number = self.open_out(s, None);
+        Turn {
+            answer: given(number),
+            queue: self,
+        }
     }
 
-    pub fn send(self, s: u32, v: u32) -> Turn
+    #[tactic(auto, using(crate::proofs::Settled::gives))]
+    pub fn send(mut self, s: u32, v: u32) -> Turn
         requires { Sound self }
         ensures { Turned self (Send s v) result.answer result.queue }
     {
-        self.open_out(s, Cargo::Value(v))
+        let number = self.open_out(s, Some(v));
+        Turn {
+            answer: given(number),
+            queue: self,
+        }
     }
 
-    // What it comes to is told first, from what is only read. Where no number is left for a permit, everything stays as it is.
+    // An open operation has its slot, and these stay free: a reserve ends with a permit, a send with a push. Where no number is left for a
+    // permit, everything stays as it is.
+    fn complete(&mut self, n: u32, op: Entry, available: Option<u32>) -> Answer
+        requires shaped { Shaped self.old }
+        requires open { Finds self.old.outs n (Ok op) }
+        requires room { length (queue_of self.old).values < 64 }
+        ensures { Does (completed n op.cargo op.owner available (queue_of self.old)) self.old result self.new }
+    {
+        let Some(value) = op.cargo else {
+            let number = self.give_permit(op.owner, available);
+            if number.is_ok() {
+                self.outs = self.outs.end(n);
+            }
+            return given(number);
+        };
+        self.outs = self.outs.end(n);
+        self.available = available;
+        let woken = self.push(value);
+        done(woken)
+    }
+
+    // An open operation is polled: it is told that nobody is left to receive, has its grant or takes a free slot, or stays pending.
+    #[tactic(auto, unfolding(model::specs::Calls::step, model::specs::Calls::poll_out))]
+    fn polled_out(&mut self, n: u32, token: u32, op: Entry) -> Answer
+        requires sound { Sound self.old }
+        requires open { Finds self.old.outs n (Ok op) }
+        ensures { Does (step (PollOut n token) (queue_of self.old)) self.old result self.new }
+    {
+        if self.receivers.count() == 0 {
+            self.outs = self.outs.end(n);
+            return plain(Err(Error::Disconnected(op.cargo)));
+        }
+        let available = self.available;
+        if op.stage.is_called() {
+            return self.complete(n, op, available);
+        }
+        if is_ready(op.stage, available) {
+            return self.complete(n, op, less(available));
+        }
+        let pended = self.outs.pend(n, token);
+        self.outs = pended.side;
+        say(Ok(Success::Pending), None, pended.retired)
+    }
+
+    #[tactic(auto, using(crate::proofs::Settled::does), unfolding(model::specs::Calls::step, model::specs::Calls::poll_out))]
     pub fn poll_out(mut self, n: u32, token: u32) -> Turn
         requires { Sound self }
         ensures { Turned self (PollOut n token) result.answer result.queue }
     {
-        let mut what = What::NoHandle;
-        let mut woken = Woken::Nobody;
-        let mut retired = OptToken::NoToken;
-        let outs = self.outs;
-        let view = outs.get(n);
-        let receivers = self.receivers;
-        let left = receivers.count();
-        let now = self.free;
-        let outcome = outcome_of(view, left, now);
-        match outcome {
-            Outcome::NoHandle => {
-                what = dead_operation(outs, n);
-            }
-            Outcome::Gone(cargo) => {
-                self.outs = outs.end(n);
-                what = What::Disconnected(cargo);
-            }
-            Outcome::Permit { owner, free } => {
-                let permits = self.permits;
-                let opened = permits.open(owner);
-                let number = opened.number;
-                match number {
-                    Number::NoRoom => {
-                        what = What::NoRoom;
-                    }
-                    Number::Given(p) => {
-                        self.outs = outs.end(n);
-                        self.free = free;
-                        let table = opened.permits;
-                        self.permits = table;
-                        what = What::Given(p);
-                    }
-                }
-            }
-            Outcome::Push { value, free } => {
-                self.outs = outs.end(n);
-                self.free = free;
-                let values = self.values;
-                self.values = values.push_back(value);
-                what = What::Done;
-                let ins = self.ins;
-                if ins.line_is_empty() {} else {
-                    let called = ins.call_first();
-                    woken = called.woken;
-                    let side = called.side;
-                    self.ins = side;
-                }
-            }
-            Outcome::Stays => {
-                let pended = outs.pend(n, token);
-                retired = pended.retired;
-                let side = pended.side;
-                self.outs = side;
-                what = What::Pending;
-            }
-        }
-        let answer = say(what, woken, retired);
+        let answer = match open_operation(self.outs, n) {
+            Err(error) => plain(Err(error)),
+            Ok(op) => self.polled_out(n, token, op),
+        };
         Turn {
-            answer: answer,
+            answer,
             queue: self,
         }
     }
 
-    // A slot that was granted comes back, as `release` has it; an operation in line hands its token back.
+    // An operation that was at this stage is cancelled: a slot that it was granted comes back, and a token that it kept goes back.
+    fn cancelled(&mut self, stage: Stage) -> Answer
+        requires shaped { Shaped self.old }
+        requires small { Small self.old.available }
+        ensures { Does (cancelled (stage_of stage) (queue_of self.old)) self.old result self.new }
+    {
+        if stage.is_called() {
+            let woken = self.release();
+            return done(woken);
+        }
+        say(Ok(Success::Done), None, stage.kept())
+    }
+
+    #[tactic(auto, using(crate::proofs::Settled::does, crate::proofs::Settled::free_small), unfolding(model::specs::Calls::step, model::specs::Calls::cancel_out))]
     pub fn cancel_out(mut self, n: u32) -> Turn
         requires { Sound self }
         ensures { Turned self (CancelOut n) result.answer result.queue }
     {
-        let mut what = What::NoHandle;
-        let mut woken = Woken::Nobody;
-        let mut retired = OptToken::NoToken;
-        let outs = self.outs;
-        let view = outs.get(n);
-        match view {
-            View::Missing => {
-                what = dead_operation(outs, n);
+        let answer = match open_operation(self.outs, n) {
+            Err(error) => plain(Err(error)),
+            Ok(op) => {
+                self.outs = self.outs.end(n);
+                self.cancelled(op.stage)
             }
-            View::Found(op) => {
-                what = What::Done;
-                let stage = op.stage;
-                let rest = outs.end(n);
-                self.outs = rest;
-                if stage.is_called() {
-                    let receivers = self.receivers;
-                    let left = receivers.count();
-                    if left == 0 {} else if rest.line_is_empty() {
-                        let free = self.free;
-                        self.free = free.more();
-                    } else {
-                        let called = rest.call_first();
-                        woken = called.woken;
-                        let side = called.side;
-                        self.outs = side;
-                    }
-                } else {
-                    retired = stage.kept();
-                }
-            }
-        }
-        let answer = say(what, woken, retired);
+        };
         Turn {
-            answer: answer,
+            answer,
             queue: self,
         }
     }
 
+    #[tactic(auto, using(crate::proofs::Settled::does), unfolding(model::specs::Calls::step, model::specs::Calls::permit_send))]
     pub fn permit_send(mut self, p: u32, v: u32) -> Turn
         requires { Sound self }
         ensures { Turned self (PermitSend p v) result.answer result.queue }
     {
-        let permits = self.permits;
-        let mut what = What::NoHandle;
-        let mut woken = Woken::Nobody;
-        if permits.has(p) {
-            self.permits = permits.close(p);
-            let receivers = self.receivers;
-            let left = receivers.count();
-            if left == 0 {
-                what = What::Disconnected(Cargo::Value(v));
-            } else {
-                what = What::Done;
-                let values = self.values;
-                self.values = values.push_back(v);
-                let ins = self.ins;
-                if ins.line_is_empty() {} else {
-                    let called = ins.call_first();
-                    woken = called.woken;
-                    let side = called.side;
-                    self.ins = side;
+        let answer = match live(self.permits, p) {
+            Err(error) => plain(Err(error)),
+            Ok(()) => {
+                self.permits = self.permits.close(p);
+                if self.receivers.count() == 0 {
+                    plain(Err(Error::Disconnected(Some(v))))
+                } else {
+                    let woken = self.push(v);
+                    done(woken)
                 }
             }
-        } else {
-            what = dead_permit(permits, p);
-        }
-        let answer = say(what, woken, OptToken::NoToken);
+        };
         Turn {
-            answer: answer,
+            answer,
             queue: self,
         }
     }
 
-    // The permit's slot goes to the first sender in line, else to the free room; after the last receiver to nobody.
+    #[tactic(auto, using(crate::proofs::Settled::does, crate::proofs::Settled::free_small), unfolding(model::specs::Calls::step, model::specs::Calls::permit_drop))]
     pub fn permit_drop(mut self, p: u32) -> Turn
         requires { Sound self }
         ensures { Turned self (PermitDrop p) result.answer result.queue }
     {
-        let permits = self.permits;
-        let mut what = What::NoHandle;
-        let mut woken = Woken::Nobody;
-        if permits.has(p) {
-            what = What::Done;
-            self.permits = permits.close(p);
-            let receivers = self.receivers;
-            let left = receivers.count();
-            if left == 0 {} else {
-                let outs = self.outs;
-                if outs.line_is_empty() {
-                    let free = self.free;
-                    self.free = free.more();
-                } else {
-                    let called = outs.call_first();
-                    woken = called.woken;
-                    let side = called.side;
-                    self.outs = side;
-                }
+        let answer = match live(self.permits, p) {
+            Err(error) => plain(Err(error)),
+            Ok(()) => {
+                self.permits = self.permits.close(p);
+                let woken = self.release();
+                done(woken)
             }
-        } else {
-            what = dead_permit(permits, p);
-        }
-        let answer = say(what, woken, OptToken::NoToken);
+        };
         Turn {
-            answer: answer,
+            answer,
             queue: self,
         }
     }

@@ -1,46 +1,51 @@
 // Answers, made apart from the queue that stands beside them.
-ghost use Rattle.std.specs.Prelude.{[], ◌≡◌, take};
-ghost use Rattle.side.specs.Meaning.{token_list, woken_tokens};
-ghost use Rattle.queue.specs.Steps.{Says};
+ghost use Rattle.std.specs.Prelude.{[], ◌≡◌, Ok, option_to_list};
+ghost use Rattle.wakes.specs.Tokens.{tokens_of};
+ghost use Rattle.queue.specs.declared.Success.TheVariants.{Done};
+ghost use Rattle.queue.specs.Steps.{token_of, number_told, Says};
 
-use crate::{Answer, What};
-use side::{OptToken, Woken};
+use crate::{Answer, Error, Success};
+use side::Woken;
 use wakes::Wakes;
 
 // The tokens to wake where at most one operation was called.
-fn wakes_of(woken: Woken) -> Wakes
-    ensures { take result.n result.tokens ≡ woken_tokens woken }
+fn wakes_of(woken: Option<Woken>) -> Wakes
+    ensures { tokens_of result ≡ token_of woken }
 {
-    let mut tokens = [0u32; 32];
-    match woken {
-        Woken::Nobody => Wakes {
-            tokens: tokens,
-            n: 0,
-        },
-        Woken::Op { number: _, token } => {
-            tokens[0] = token;
-            Wakes {
-                tokens: tokens,
-                n: 1,
-            }
-        }
+    woken.map_or(Wakes::none(), |called| Wakes::one(called.token))
+}
+
+pub(crate) fn say(
+    what: Result<Success, Error>,
+    woken: Option<Woken>,
+    retired: Option<u32>,
+) -> Answer
+    ensures { Says what (token_of woken) (option_to_list retired) result }
+{
+    Answer {
+        what,
+        wakes: wakes_of(woken),
+        retired,
     }
 }
 
-pub(crate) fn say(what: What, woken: Woken, retired: OptToken) -> Answer
-    ensures { Says what (woken_tokens woken) (token_list retired) result }
+// Done, with the operation that this called.
+pub(crate) fn done(woken: Option<Woken>) -> Answer
+    ensures { Says (Ok Done) (token_of woken) [] result }
 {
-    let wakes = wakes_of(woken);
-    Answer {
-        what: what,
-        wakes: wakes,
-        retired: retired,
-    }
+    say(Ok(Success::Done), woken, None)
 }
 
 // An answer that wakes nobody and retires nothing.
-pub(crate) fn plain(what: What) -> Answer
+pub(crate) fn plain(what: Result<Success, Error>) -> Answer
     ensures { Says what [] [] result }
 {
-    say(what, Woken::Nobody, OptToken::NoToken)
+    say(what, None, None)
+}
+
+// The number of a new record, or why there is none.
+pub(crate) fn given(number: Result<u32, Error>) -> Answer
+    ensures { Says (number_told number) [] [] result }
+{
+    plain(number.map(|n| Success::Given(n)))
 }

@@ -4,13 +4,12 @@ use Prim.Native.Nat.{ℕ, zero, suc, ◌+◌, ◌*◌, ◌/◌, ◌%◌, ◌<◌
 use mathlib.Core.Path.{◌≡◌, refl, sym, ap, ap₂, ◌∙◌, subst}
 use mathlib.Core.Bool.{Bool, true, false}
 use mathlib.Core.List.{List, [], ◌∷◌, map, Memᴰ}
-use mathlib.Core.Option.{none, some}
+use Rattle.std.specs.Prelude.{None, Some}
 use native.Mathlib.Nat.{lt_of_not-le}
 use native.Mathlib.Decide.{ℕ_discrete}
 use native.Mathlib.Omega.{arith}
 use lib.ListN.{length, get_or, set, replicate, length-map}
 use lib.Seq.{get_or-set_same, get_or-set_other}
-use Rattle.arena.specs.declared.OptWaiter.TheVariants.{Id}
 use Rattle.arena.specs.declared.Waiter.TheVariants.{Waiting}
 use Rattle.waitlist.specs.declared.WaitList.{WaitList}
 use Rattle.waitlist.specs.View.{waiter_id, held, line, along, op_of}
@@ -86,14 +85,14 @@ wiped_set live live' xs p x inside other here h k e = go (ℕ_discrete k p)
 -- ---- what stands at a place of the model's table
 module _ (s : Side) (snd : Sound s) where
   abbrev bits : List Bool
-  bits = live_of s.live
+  bits = live_of s.places.live
 
   abbrev deed : ℕ → Deed
   deed p = deed_by s.waiters (stored s p)
 
   pub wide_ops : length (side_of s).ops ≡ 32
   unfolding side_of
-  wide_ops = wide turn_of (deed_by s.waiters) fresh_op 32 (omega arith) s.live s.spent s.ops snd.used
+  wide_ops = wide turn_of (deed_by s.waiters) fresh_op 32 (omega arith) s.places.live s.places.spent s.ops snd.used
 
   pub live_small : (p : ℕ) → get_or bits p false ≡ true → p < 32
   live_small p e = live_below 32 bits p snd.used.within e
@@ -101,16 +100,16 @@ module _ (s : Side) (snd : Sound s) where
   -- what stands at a place of the model's table
   pub place_at_lem : (p : ℕ) → p < 32 → place_in s p ≡ place_at turn_of (deed_by s.waiters) (get_or bits p false) (stored s p)
   unfolding side_of
-  place_at_lem p small = places_at turn_of (deed_by s.waiters) bits s.ops p fresh_op (omega (arith, snd.used.sized)) (omega (arith, snd.used.sized, length_live s.live))
+  place_at_lem p small = places_at turn_of (deed_by s.waiters) bits s.ops p fresh_op (omega (arith, snd.used.sized)) (omega (arith, snd.used.sized, length_live s.places.live))
 
   pub place_holds : (p : ℕ) → get_or bits p false ≡ true → place_in s p ≡ holds (turn_of (stored s p)) (deed p)
   place_holds p e = place_at_lem p (live_small p e) ∙ ap (λ (b : Bool). place_at turn_of (deed_by s.waiters) b (stored s p)) e
 
   -- the row of a live place, and back
-  pub live_row : (p : ℕ) → get_or bits p false ≡ true → get_or (table_of s) p none ≡ some (stored s p)
+  pub live_row : (p : ℕ) → get_or bits p false ≡ true → get_or (table_of s) p None ≡ Some (stored s p)
   live_row p e = held_live bits s.ops p fresh_op (omega (arith, snd.used.sized, live_small p e)) e
 
-  pub row_live : (p : ℕ) (op : Op) → get_or (table_of s) p none ≡ some op → (get_or bits p false ≡ true) × (op ≡ stored s p)
+  pub row_live : (p : ℕ) (op : Op) → get_or (table_of s) p None ≡ Some op → (get_or bits p false ≡ true) × (op ≡ stored s p)
   row_live p op e = go (get_or bits p false) refl
     where
       go : (b : Bool) → get_or bits p false ≡ b → (get_or bits p false ≡ true) × (op ≡ stored s p)
@@ -118,7 +117,7 @@ module _ (s : Side) (snd : Sound s) where
       go false q = let h = held_free bits s.ops p q in let z : ◌≡◌ {A = ℕ} 0 1 = cc in absurd (omega arith)
 
   -- the operation at a live place is found by its number
-  pub live_number : (p : ℕ) → get_or bits p false ≡ true → lookup (side_of s).ops (number_at s.ops p) ≡ some (deed p)
+  pub live_number : (p : ℕ) → get_or bits p false ≡ true → lookup (side_of s).ops (number_at s.ops p) ≡ Some (deed p)
   live_number p e =
       let k : ℕ = turn_of (stored s p) in
       let small = live_small p e in
@@ -138,6 +137,9 @@ module _ (s : Side) (snd : Sound s) where
     pub is_small : n % 64 < 32
     is_small = live_small (n % 64) is_live_lem
 
+    pub in_array : (p : ℕ) → p ≡ n % 64 → p < 32
+    in_array p e = omega (arith, is_small)
+
     -- its turn is its place's
     pub turn_row : turn_of (stored s (n % 64)) ≡ n / 64
     turn_row = sym found.on_turn
@@ -145,25 +147,25 @@ module _ (s : Side) (snd : Sound s) where
     pub the_number : number_at s.ops (n % 64) ≡ n
     the_number = omega (arith, turn_row)
 
-    pub deed_row : lookup (side_of s).ops n ≡ some (deed (n % 64))
-    deed_row = o.1 ∙ ap some (sym found.is)
+    pub deed_row : lookup (side_of s).ops n ≡ Some (deed (n % 64))
+    deed_row = o.1 ∙ ap Some (sym found.is)
 
     pub holds_row : place_in s (n % 64) ≡ holds (n / 64) (deed (n % 64))
     holds_row = place_holds (n % 64) is_live_lem ∙ ap (λ (k : ℕ). holds k (deed (n % 64))) turn_row
 
-    pub the_deed : (d : Deed) → lookup (side_of s).ops n ≡ some d → d ≡ deed (n % 64)
+    pub the_deed : (d : Deed) → lookup (side_of s).ops n ≡ Some d → d ≡ deed (n % 64)
     the_deed d e = let q = deed_row in cc
 
   -- ---- whoever stands in line has one of the 32 places, and its node is that place's
-  pub line_place : (k : ℕ) → Memᴰ k (line s.waiters) → (op_of (held s.waiters k) < 32) × (node_at (table_of s) (op_of (held s.waiters k)) ≡ Id (waiter_id k))
+  pub line_place : (k : ℕ) → Memᴰ k (line s.waiters) → (op_of (held s.waiters k) < 32) × (node_at (table_of s) (op_of (held s.waiters k)) ≡ Some (waiter_id k))
   line_place k m =
       let h = snd.ties.stands k m in
       let q : op_of (held s.waiters k) ≡ h.0 = ap op_of h.2 in
-      let node : node_at (table_of s) (op_of (held s.waiters k)) ≡ Id (waiter_id k) = ap (node_at (table_of s)) q ∙ snd.ties.owned.back k h.0 (Waiting h.1) h.2 in
+      let node : node_at (table_of s) (op_of (held s.waiters k)) ≡ Some (waiter_id k) = ap (node_at (table_of s)) q ∙ snd.ties.owned.back k h.0 (Waiting h.1) h.2 in
       (lt_of_not-le (λ b. no_id k (sym (snd.ties.owned.few (op_of (held s.waiters k)) b) ∙ node)), node)
 
   -- and so who stands in line with the number n is the node of n's place
-  pub line_node : (n k : ℕ) → Memᴰ k (line s.waiters) → n ≡ number_in s.ops (held s.waiters k) → node_at (table_of s) (n % 64) ≡ Id (waiter_id k)
+  pub line_node : (n k : ℕ) → Memᴰ k (line s.waiters) → n ≡ number_in s.ops (held s.waiters k) → node_at (table_of s) (n % 64) ≡ Some (waiter_id k)
   line_node n k m e =
       let l = line_place k m in
       let small : op_of (held s.waiters k) < 32 = l.0 in

@@ -2,26 +2,24 @@
 -- `owned_by`, `called`, `polled`, `kept`, `is_called` and `Op::fresh` answer by an equation.) Assumes nothing.
 use Prim.Native.Nat.{ℕ}
 use mathlib.Core.Path.{◌≡◌, sym, ap, ◌∙◌}
-use mathlib.Core.Option.{Option}
-use lib.ListN.{take}
-use Rattle.tables.specs.Meaning.{numbered}
-use Rattle.side.specs.declared.Cargo.{Cargo}
+use Rattle.std.specs.Prelude.{Option, option_map, option_to_list}
+use Rattle.wakes.specs.Tokens.{tokens_of}
+use Rattle.tables.specs.declared.Opened.{Opened}
 use Rattle.side.specs.declared.Side.{Side}
-use Rattle.side.specs.declared.Opened.{Opened}
 use Rattle.side.specs.declared.Pended.{Pended}
 use Rattle.side.specs.declared.CalledOne.{CalledOne}
 use Rattle.side.specs.declared.Closed.{Closed}
-use Rattle.side.specs.Meaning.{carried, side_of, token_list, woken_tokens, woken_ops}
+use Rattle.side.specs.Meaning.{carried, side_of}
 use Rattle.side.specs.Calls.{Open, Fresh, opened_if, Opens, Ends, Pends, CallsOne, Closes}
 
 pub fresh_one : (r t : Side) → Fresh r → Fresh t → side_of r ≡ side_of t
 fresh_one r t p q = p.side ∙ sym q.side
 
 module _ (s : Side) where
-  pub open_one : (h : ℕ) (j : Cargo) (r t : Opened) → Opens s h j r → Opens s h j t
-      → (numbered r.number ≡ numbered t.number) × (side_of r.side ≡ side_of t.side)
+  pub open_one : (h : ℕ) (j : Option ℕ) (r t : Opened Side) → Opens s h j r → Opens s h j t
+      → (r.number ≡ t.number) × (side_of r.next ≡ side_of t.next)
   open_one h j r t p q =
-      let e : numbered r.number ≡ numbered t.number = p.number ∙ sym q.number in
+      let e : r.number ≡ t.number = p.number ∙ sym q.number in
       (e, p.side ∙ (ap (λ (o : Option ℕ). opened_if o h (carried j) (side_of s)) e ∙ sym q.side))
 
   pub end_one : (n : ℕ) (r t : Side) → Ends s n r → Ends s n t → side_of r ≡ side_of t
@@ -29,14 +27,14 @@ module _ (s : Side) where
 
   -- `pend` asks that the operation is open
   pub pend_one : (n k : ℕ) (r t : Pended) → Open s n → Pends s n k r → Pends s n k t
-      → (token_list r.retired ≡ token_list t.retired) × (side_of r.side ≡ side_of t.side)
+      → (option_to_list r.retired ≡ option_to_list t.retired) × (side_of r.side ≡ side_of t.side)
   pend_one n k r t o p q =
       (p.retired o.0 o.1 ∙ sym (q.retired o.0 o.1), p.side o.0 o.1 ∙ sym (q.side o.0 o.1))
 
   pub call_one : (r t : CalledOne) → CallsOne s r → CallsOne s t
-      → (woken_tokens r.woken ≡ woken_tokens t.woken) × (woken_ops r.woken ≡ woken_ops t.woken) × (side_of r.side ≡ side_of t.side)
+      → (option_to_list (option_map (λ w. w.token) r.woken) ≡ option_to_list (option_map (λ w. w.token) t.woken)) × (option_to_list (option_map (λ w. w.number) r.woken) ≡ option_to_list (option_map (λ w. w.number) t.woken)) × (side_of r.side ≡ side_of t.side)
   call_one r t p q = (p.woken ∙ sym q.woken, p.number ∙ sym q.number, p.side ∙ sym q.side)
 
   pub close_one : (r t : Closed) → Closes s r → Closes s t
-      → (take r.wakes.n r.wakes.tokens ≡ take t.wakes.n t.wakes.tokens) × (side_of r.side ≡ side_of t.side)
+      → (tokens_of r.wakes ≡ tokens_of t.wakes) × (side_of r.side ≡ side_of t.side)
   close_one r t p q = (p.wakes ∙ sym q.wakes, p.side ∙ sym q.side)

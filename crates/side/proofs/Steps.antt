@@ -5,7 +5,8 @@ use mathlib.Core.Bool.{Bool, true, false}
 use mathlib.Core.Logic.{⊎_elim}
 use mathlib.Core.List.Memᴰ
 use mathlib.Core.List.{List, [], ◌∷◌, ◌++◌, map, Memᴰ}
-use mathlib.Core.Option.{Option, none, some}
+use Rattle.std.proofs.lemmas.Option.{none-some}
+use Rattle.std.specs.Prelude.{Option, None, Some, option_to_list}
 use native.Mathlib.Decide.{ℕ_discrete}
 use native.Mathlib.Omega.{arith}
 use lib.ListN.{length, get_or, set, length-set}
@@ -13,15 +14,12 @@ use lib.Seq.{ext_get_or, get_or-set_same, get_or-set_other, set-get_or, set-set}
 use mir.Val.{Fits}
 use mir.Syntax.{w8}
 use Rattle.arena.specs.declared.WaiterId.{WaiterId}
-use Rattle.arena.specs.declared.OptWaiter.{OptWaiter}
-use Rattle.arena.specs.declared.OptWaiter.TheVariants.{Nobody, Id}
 use Rattle.arena.specs.declared.Waiter.{Waiter}
 use Rattle.arena.specs.declared.Waiter.TheVariants.{Waiting}
 use Rattle.arena.specs.Lists as lists
 use Rattle.arena.specs.Lists.{NotIn}
 use Rattle.waitlist.specs.declared.WaitList.{WaitList}
 use Rattle.waitlist.specs.declared.Held.{Held}
-use Rattle.waitlist.specs.declared.Held.TheVariants.{Empty, Holding}
 use Rattle.waitlist.specs.declared.Pushed.{Pushed}
 use Rattle.waitlist.specs.declared.Dropped.{Dropped}
 use Rattle.waitlist.specs.View.{waiter_id, held, renew, line, along, op_of, count}
@@ -30,7 +28,6 @@ use Rattle.waitlist.specs.Calls.{Pushes, Unlinks, Refreshes, Gone, Drops}
 use Rattle.waitlist.proofs.Segs.{same_id, no_id}
 use Rattle.waitlist.proofs.Room.{room}
 use Rattle.waitlist.proofs.Laws.{line_once, along_pushed, along_unlinked, along_gone, along_refreshed}
-use Rattle.live.specs.declared.Live.{Live}
 use Rattle.live.specs.Bits.{live_of}
 use Rattle.live.specs.Table.{held as table}
 use Rattle.live.proofs.Laws.{length_live}
@@ -39,8 +36,8 @@ use Rattle.model.specs.Table.{vacant, holds, Table, lookup, put, clear}
 use Rattle.model.specs.Side as model
 use Rattle.model.specs.Queue.{Job}
 use Rattle.model.proofs.TableLaws.{change_live, has_live, lookup_put}
-use Rattle.tables.specs.Meaning.{is_live}
-use Rattle.tables.specs.Places.{spent_by, Used, place_at, places_of}
+use Rattle.tables.specs.declared.Places.{Places}
+use Rattle.tables.specs.Places.{is_live, spent_by, Used, place_at, places_of}
 use Rattle.tables.proofs.PlaceLaws.{both_bits, turn_at_lem, used_write, size_places, places_at}
 use Rattle.tables.proofs.WordLaws.{closed_used, closed_places}
 use Rattle.side.specs.declared.Mark.{Mark}
@@ -48,13 +45,12 @@ use Rattle.side.specs.declared.Mark.TheVariants.{Idle, At, Void}
 use Rattle.side.specs.declared.Op.{Op}
 use Rattle.side.specs.declared.Side.{Side}
 use Rattle.side.specs.declared.Stage.{Stage}
-use Rattle.side.specs.declared.OptToken.{OptToken}
-use Rattle.side.specs.declared.OptToken.TheVariants.{NoToken, Token}
-use Rattle.side.specs.Meaning.{blank_op, fresh_op, turn_of, number_at, number_in, Deed, stage_in, stage_by, deed_by, table_of, side_of, stage_of, token_list}
+use Rattle.side.specs.Meaning.{blank_op, fresh_op, turn_of, number_at, number_in, Deed, stage_in, stage_by, deed_by, table_of, side_of, stage_of}
 use Rattle.side.specs.Sound.{node_of, node_in, node_at, Ties, Wiped, Sound}
 use Rattle.side.specs.Calls.{Open, Alone, Leaves, Refreshed, Detached, Detaches, Joins, Ends, Pends}
-use Rattle.side.proofs.Lists.{mem_without, without_mem, without_gone, without_none, without_map}
-use Rattle.side.proofs.Laws.{mark_at, node_waits, kept_some, kept_none, same_op, not_empty, Only, Link, tied, loose, Lined, deeds_slot, ties_slot, ties_set}
+use Rattle.arena.proofs.Lists.{without_in, without_keeps, without_out}
+use Rattle.side.proofs.Lists.{without_none, without_map}
+use Rattle.side.proofs.Laws.{mark_at, node_waits, kept_some, kept_none, same_op, Only, Link, tied, loose, Lined, deeds_slot, ties_slot, ties_set}
 use Rattle.side.proofs.Numbers.{stored, wiped_set, lines_same, turns_set, lines_turns, wide_ops, place_at_lem, live_row, is_small, is_live_lem, turn_row, the_number, deed_row, holds_row, the_deed, line_place, line_node}
 
 -- ---- the wait list alone
@@ -72,23 +68,14 @@ leaves w s id u d a b =
     i = id.0.0
 
     out : NotIn i (line u)
-    out = subst (NotIn i) (sym a.line) (without_gone i (line w) (line_once w s))
+    out = subst (NotIn i) (sym a.line) (without_out i (line w) (line_once w s))
 
     g : Gone u i d
     g = b.gone out
 
-pub refreshed_at : (w : WaitList) (m : Mark) (t : ℕ) (id : WaiterId) (r : WaitList) → m ≡ At id → Refreshes w id.0.0 (Waiting t) r → Refreshed w m t r
-refreshed_at w m t id r e u i q = subst (λ (k : ℕ). Refreshes w k (Waiting t) r) (same_id id.0.0 i (sym (ap node_of e) ∙ q)) u
-
-pub refreshed_idle : (w : WaitList) (m : Mark) (t : ℕ) (r : WaitList) → m ≡ Idle → Refreshed w m t r
-refreshed_idle w m t r e i q = absurd (no_id i (sym (ap node_of e) ∙ q))
-
-pub refreshed_void : (w : WaitList) (m : Mark) (t : ℕ) (r : WaitList) → m ≡ Void → Refreshed w m t r
-refreshed_void w m t r e i q = absurd (no_id i (sym (ap node_of e) ∙ q))
-
-op_renew : (x : Waiter) (h : Held) → op_of (renew x h) ≡ op_of h
-op_renew x Empty = refl
-op_renew x (Holding op y) = refl
+op_renew : (x : Waiter) (h : Option Held) → op_of (renew x h) ≡ op_of h
+op_renew x None = refl
+op_renew x (Some h) = refl
 
 -- ---- an open operation, at its place
 module _ (s : Side) (snd : Sound s) where
@@ -96,7 +83,7 @@ module _ (s : Side) (snd : Sound s) where
   w = s.waiters
 
   abbrev bits : List Bool
-  bits = live_of s.live
+  bits = live_of s.places.live
 
   abbrev rows : List (Option Op)
   rows = table_of s
@@ -117,7 +104,7 @@ module _ (s : Side) (snd : Sound s) where
     inside : place < length s.ops
     inside = omega (arith, small, snd.used.sized)
 
-    row : get_or rows place none ≡ some was
+    row : get_or rows place None ≡ Some was
     row = live_row s snd place (is_live_lem s snd n o)
 
     node_row : node_at rows place ≡ node_of was.mark
@@ -125,9 +112,9 @@ module _ (s : Side) (snd : Sound s) where
 
     -- THE RECORD x AT THE PLACE, of the same turn
     record Again (x : Op) (ops' : List Op) : Type 0 where
-      used : Used turn_of 32 bits (live_of s.spent) ops'
+      used : Used turn_of 32 bits (live_of s.places.spent) ops'
       wiped : Wiped bits ops'
-      tabled : table bits ops' ≡ set rows place (some x)
+      tabled : table bits ops' ≡ set rows place (Some x)
       here : get_or ops' place fresh_op ≡ x
       other : (k : ℕ) → (k ≡ place → ⊥) → get_or ops' k fresh_op ≡ stored s k
       turns : (k : ℕ) → turn_of (get_or ops' k fresh_op) ≡ turn_of (stored s k)
@@ -135,7 +122,7 @@ module _ (s : Side) (snd : Sound s) where
     again : (x : Op) → turn_of x ≡ turn_of was → Again x (set s.ops place x)
     again x e =
         record {
-          used = used_write turn_of 32 bits (live_of s.spent) s.ops snd.used place x (e ∙ sym (turn_at_lem turn_of s.ops place fresh_op inside));
+          used = used_write turn_of 32 bits (live_of s.places.spent) s.ops snd.used place x (e ∙ sym (turn_at_lem turn_of s.ops place fresh_op inside));
           wiped = wiped_set bits bits s.ops place x inside (λ k d. refl) (λ e. both_bits (get_or bits place false) (is_live_lem s snd n o) e) snd.wiped;
           tabled = held_write bits s.ops place x (is_live_lem s snd n o);
           here = get_or-set_same s.ops place x fresh_op inside;
@@ -148,27 +135,27 @@ module _ (s : Side) (snd : Sound s) where
         record {
           used = snd.used;
           wiped = snd.wiped;
-          tabled = sym (ap (set rows place) (sym row) ∙ set-get_or rows place none);
+          tabled = sym (ap (set rows place) (sym row) ∙ set-get_or rows place None);
           here = refl;
           other = λ k d. refl;
           turns = λ k. refl;
         }
 
     -- and another wait list, in which at most the node i is another: it was n's or nobody's
-    module _ (x : Op) (ops' : List Op) (a : Again x ops') (w' : WaitList) (i : ℕ) (c : Only rows (set rows place (some x)) w w' place i) where
-      sound_again : Link (node_of x.mark) (held w' i) place i → Lined w w' i → Sound (record { live = s.live; spent = s.spent; ops = ops'; waiters = w' })
+    module _ (x : Op) (ops' : List Op) (a : Again x ops') (w' : WaitList) (i : ℕ) (c : Only rows (set rows place (Some x)) w w' place i) where
+      sound_again : Link (node_of x.mark) (held w' i) place i → Lined w w' i → Sound (record s { ops = ops'; waiters = w' })
       sound_again l m =
           record {
             used = a.used;
             wiped = a.wiped;
             ties = subst (λ (t : List (Option Op)). Ties t w') (sym a.tabled)
-                (ties_slot rows (set rows place (some x)) w w' snd.ties place i c (subst (λ (z : OptWaiter). Link z (held w' i) place i) (sym (ap node_in now)) l) m);
+                (ties_slot rows (set rows place (Some x)) w w' snd.ties place i c (subst (λ (z : Option WaiterId). Link z (held w' i) place i) (sym (ap node_in now)) l) m);
           }
         where
-          now : get_or (set rows place (some x)) place none ≡ some x
-          now = get_or-set_same rows place (some x) none (omega (arith, wide, small))
+          now : get_or (set rows place (Some x)) place None ≡ Some x
+          now = get_or-set_same rows place (Some x) None (omega (arith, wide, small))
 
-      side_again : side_of (record { live = s.live; spent = s.spent; ops = ops'; waiters = w' })
+      side_again : side_of (record s { ops = ops'; waiters = w' })
           ≡ record { ops = put (side_of s).ops n (deed_by w' x); line = along (number_in s.ops) w' }
       unfolding side_of
       side_again =
@@ -180,10 +167,10 @@ module _ (s : Side) (snd : Sound s) where
           new = places_of turn_of (deed_by w') bits ops'
 
           size : length new ≡ 32
-          size = size_places turn_of (deed_by w') bits ops' (omega (arith, a.used.sized, length_live s.live)) ∙ a.used.sized
+          size = size_places turn_of (deed_by w') bits ops' (omega (arith, a.used.sized, length_live s.places.live)) ∙ a.used.sized
 
           at : (k : ℕ) → k < 32 → get_or new k (vacant 0) ≡ place_at turn_of (deed_by w') (get_or bits k false) (get_or ops' k fresh_op)
-          at k b = places_at turn_of (deed_by w') bits ops' k fresh_op (omega (arith, a.used.sized)) (omega (arith, a.used.sized, length_live s.live))
+          at k b = places_at turn_of (deed_by w') bits ops' k fresh_op (omega (arith, a.used.sized)) (omega (arith, a.used.sized, length_live s.places.live))
 
           here : get_or new place (vacant 0) ≡ holds (n / 64) (deed_by w' x)
           here =
@@ -192,7 +179,7 @@ module _ (s : Side) (snd : Sound s) where
               ∙ ap (λ (k : ℕ). holds k (deed_by w' x)) (ap turn_of (sym a.here) ∙ (a.turns place ∙ turn_row s snd n o)))
 
           there : (k : ℕ) → (k ≡ place → ⊥) → (b : Bool) → get_or bits k false ≡ b → place_at turn_of (deed_by w') b (stored s k) ≡ place_at turn_of (deed_by w) b (stored s k)
-          there k d true e = ap (holds (turn_of (stored s k))) (deeds_slot rows (set rows place (some x)) w w' snd.ties place i c k (stored s k) d (live_row s snd k e))
+          there k d true e = ap (holds (turn_of (stored s k))) (deeds_slot rows (set rows place (Some x)) w w' snd.ties place i c k (stored s k) d (live_row s snd k e))
           there k d false e = refl
 
           go : (k : ℕ) → k < 32 → Dec (k ≡ place) → get_or new k (vacant 0) ≡ get_or (put (side_of s).ops n (deed_by w' x)) k (vacant 0)
@@ -208,37 +195,37 @@ module _ (s : Side) (snd : Sound s) where
               ∙ (sym (place_at_lem s snd k b) ∙ sym (get_or-set_other (side_of s).ops place k (holds (n / 64) (deed_by w' x)) (vacant 0) d))))
 
     -- n had node i; n had none and i was free
-    only_node : (x : Op) (i : ℕ) (w' : WaitList) → node_at rows place ≡ Id (waiter_id i) → ((k : ℕ) → (k ≡ i → ⊥) → held w' k ≡ held w k)
-        → Only rows (set rows place (some x)) w w' place i
+    only_node : (x : Op) (i : ℕ) (w' : WaitList) → node_at rows place ≡ Some (waiter_id i) → ((k : ℕ) → (k ≡ i → ⊥) → held w' k ≡ held w k)
+        → Only rows (set rows place (Some x)) w w' place i
     only_node x i w' e there =
         record {
           small = small;
-          sized = length-set rows place (some x) ∙ wide;
-          other = λ k d. get_or-set_other rows place k (some x) none d;
+          sized = length-set rows place (Some x) ∙ wide;
+          other = λ k d. get_or-set_other rows place k (Some x) None d;
           there = there;
           was = λ op y q. let f = snd.ties.owned.forth place i e in same_op op place y f.0 (sym q ∙ f.1);
           had = λ k q. same_id k i (sym q ∙ e);
         }
 
-    only_free : (x : Op) (i : ℕ) (w' : WaitList) → node_at rows place ≡ Nobody → held w i ≡ Empty → ((k : ℕ) → (k ≡ i → ⊥) → held w' k ≡ held w k)
-        → Only rows (set rows place (some x)) w w' place i
+    only_free : (x : Op) (i : ℕ) (w' : WaitList) → node_at rows place ≡ None → held w i ≡ None → ((k : ℕ) → (k ≡ i → ⊥) → held w' k ≡ held w k)
+        → Only rows (set rows place (Some x)) w w' place i
     only_free x i w' e h there =
         record {
           small = small;
-          sized = length-set rows place (some x) ∙ wide;
-          other = λ k d. get_or-set_other rows place k (some x) none d;
+          sized = length-set rows place (Some x) ∙ wide;
+          other = λ k d. get_or-set_other rows place k (Some x) None d;
           there = there;
-          was = λ op y q. absurd (not_empty op y (sym h ∙ q));
+          was = λ op y q. absurd (none-some _ (sym h ∙ q));
           had = λ k q. absurd (no_id k (sym e ∙ q));
         }
 
     -- not in line
-    not_lined : ((k : ℕ) → Memᴰ k (line w) → node_at rows place ≡ Id (waiter_id k) → ⊥) → model.without n (side_of s).line ≡ (side_of s).line
+    not_lined : ((k : ℕ) → Memᴰ k (line w) → node_at rows place ≡ Some (waiter_id k) → ⊥) → model.without n (side_of s).line ≡ (side_of s).line
     unfolding side_of along
     not_lined h = without_none (λ (k : ℕ). number_in s.ops (held w k)) n (line w) (λ k m e. h k m (line_node s snd n k m e))
 
     -- ---- detach
-    alone_same : node_at rows place ≡ Nobody → Detaches s n s
+    alone_same : node_at rows place ≡ None → Detaches s n s
     alone_same e =
         record {
           sound = snd;
@@ -249,34 +236,34 @@ module _ (s : Side) (snd : Sound s) where
           };
         }
       where
-        put_same : (d : Deed) → lookup (side_of s).ops n ≡ some d → put (side_of s).ops n d ≡ (side_of s).ops
+        put_same : (d : Deed) → lookup (side_of s).ops n ≡ Some d → put (side_of s).ops n d ≡ (side_of s).ops
         put_same d q =
             ap (set (side_of s).ops place) (ap (holds (n / 64)) (the_deed s snd n o d q) ∙ sym (holds_row s snd n o)) ∙ set-get_or (side_of s).ops place (vacant 0)
 
-    pub detach_idle : was.mark ≡ Idle → Detaches s n s
-    detach_idle e = alone_same (node_row ∙ ap node_of e)
+    -- the code reads the place off the number: p is that place
+    pub detach_none : (p : ℕ) → p ≡ place → ((id : WaiterId) → (stored s p).mark ≡ At id → ⊥) → Detaches s n s
+    detach_none p here h = alone_same (node_row ∙ go was.mark (subst (λ (k : ℕ). (id : WaiterId) → (stored s k).mark ≡ At id → ⊥) here h))
+      where
+        go : (m : Mark) → ((id : WaiterId) → m ≡ At id → ⊥) → node_of m ≡ None
+        go Idle d = refl
+        go (At id) d = absurd (d id refl)
+        go Void d = refl
 
-    pub detach_void : was.mark ≡ Void → Detaches s n s
-    detach_void e = alone_same (node_row ∙ ap node_of e)
+    abbrev Nodeless : ℕ → Type 0
+    Nodeless k = (id : WaiterId) (w' : WaitList) → (stored s k).mark ≡ At id → Leaves w id.0.0 w' → Detaches s n (record s { ops = set s.ops k (record (stored s k) { mark = Idle }); waiters = w' })
 
-    pub detach_node : (id : WaiterId) (w' : WaitList) → was.mark ≡ At id → Leaves w id.0.0 w'
-        → Detaches s n (record {
-          live = s.live;
-          spent = s.spent;
-          ops = set s.ops place (record { value = was.value; owner = was.owner; turn = was.turn; carries = was.carries; mark = Idle });
-          waiters = w';
-        })
+    nodeless : Nodeless place
     unfolding side_of along
-    detach_node id w' e u =
+    nodeless id w' e u =
         record {
           sound = sound_again new (set s.ops place new) (again new refl) w' i only (loose refl u.here) (record {
             sound = u.sound;
-            stays = λ k d m. subst (Memᴰ k) (sym u.line) (mem_without i k (line w) d m);
-            stood = λ k d m. without_mem i k (line w) (subst (Memᴰ k) u.line m);
-            stands = λ m. absurd (without_gone i (line w) (line_once w snd.ties.list) (subst (Memᴰ i) u.line m));
-            lined = λ op k q. absurd (not_empty op (Waiting k) (sym u.here ∙ q));
+            stays = λ k d m. subst (Memᴰ k) (sym u.line) (without_keeps i k (line w) d m);
+            stood = λ k d m. without_in i k (line w) (subst (Memᴰ k) u.line m);
+            stands = λ m. absurd (without_out i (line w) (line_once w snd.ties.list) (subst (Memᴰ i) u.line m));
+            lined = λ op k q. absurd (none-some _ (sym u.here ∙ q));
           });
-          alone = ap (λ (t : List (Option Op)). node_at t place) (again new refl).tabled ∙ ap node_in (get_or-set_same rows place (some new) none (omega (arith, wide, small)));
+          alone = ap (λ (t : List (Option Op)). node_at t place) (again new refl).tabled ∙ ap node_in (get_or-set_same rows place (Some new) None (omega (arith, wide, small)));
           side = λ d q. record {
             stage = model.idle;
             side =
@@ -289,12 +276,12 @@ module _ (s : Side) (snd : Sound s) where
         i = id.0.0
 
         new : Op
-        new = record { value = was.value; owner = was.owner; turn = was.turn; carries = was.carries; mark = Idle }
+        new = record was { mark = Idle }
 
-        node : node_at rows place ≡ Id (waiter_id i)
+        node : node_at rows place ≡ Some (waiter_id i)
         node = node_row ∙ ap node_of e
 
-        only : Only rows (set rows place (some new)) w w' place i
+        only : Only rows (set rows place (Some new)) w w' place i
         only = only_node new i w' node u.there
 
         number : number_in s.ops (held w i) ≡ n
@@ -305,8 +292,11 @@ module _ (s : Side) (snd : Sound s) where
             ap (λ (j : ℕ). model.without j (side_of s).line) (sym number)
             ∙ without_map (λ (k : ℕ). number_in s.ops (held w k)) i (line w) (line_once w snd.ties.list) (λ k m q. same_id i k (sym node ∙ line_node s snd n k m (sym number ∙ q)))
 
-    pub is_byte : Fits w8 place
-    is_byte = record { fits = omega (arith, small) }
+    pub detach_node : (p : ℕ) → p ≡ place → Nodeless p
+    detach_node p here = subst Nodeless (sym here) nodeless
+
+    pub is_byte : (p : ℕ) → p ≡ place → Fits w8 p
+    is_byte p here = record { fits = omega (arith, small) }
 
     -- the mark of n, where it is open
     mark_row : (st : model.Stage) → model.mark n st (side_of s).ops ≡ put (side_of s).ops n (model.re_stage (λ old. st) (deed_by w was))
@@ -316,15 +306,12 @@ module _ (s : Side) (snd : Sound s) where
     pub join_room : Alone s n → count w < 32
     join_room a = room (node_at rows) w snd.ties.list snd.ties.owned place small a
 
-    pub join_done : (t : ℕ) (p : Pushed) → Alone s n → Pushes w place (Waiting t) p
-        → Joins s n t (record {
-          live = s.live;
-          spent = s.spent;
-          ops = set s.ops place (record { value = was.value; owner = was.owner; turn = was.turn; carries = was.carries; mark = At p.id });
-          waiters = p.list;
-        })
+    abbrev Joined : ℕ → Type 0
+    Joined k = (t : ℕ) (p : Pushed) → Alone s n → Pushes w k (Waiting t) p → Joins s n t (record s { ops = set s.ops k (record (stored s k) { mark = At p.id }); waiters = p.list })
+
+    joined : Joined place
     unfolding side_of
-    join_done t p a u =
+    joined t p a u =
         record {
           sound = sound_again new (set s.ops place new) (again new refl) w' i only (tied (Waiting t) refl u.here) (record {
             sound = u.sound;
@@ -336,7 +323,7 @@ module _ (s : Side) (snd : Sound s) where
           side =
               side_again new (set s.ops place new) (again new refl) w' i only
               ∙ ap₂ (λ (k : Table Deed) (l : List ℕ). record { ops = k; line = l })
-              (ap (λ (h : Held). put (side_of s).ops n (model.re_stage (λ old. stage_in h) (deed_by w was))) u.here ∙ sym (mark_row (model.waiting t)))
+              (ap (λ (h : Option Held). put (side_of s).ops n (model.re_stage (λ old. stage_in h) (deed_by w was))) u.here ∙ sym (mark_row (model.waiting t)))
               lines;
         }
       where
@@ -347,13 +334,16 @@ module _ (s : Side) (snd : Sound s) where
         i = p.id.0.0
 
         new : Op
-        new = record { value = was.value; owner = was.owner; turn = was.turn; carries = was.carries; mark = At p.id }
+        new = record was { mark = At p.id }
 
-        only : Only rows (set rows place (some new)) w w' place i
+        only : Only rows (set rows place (Some new)) w w' place i
         only = only_free new i w' a u.free u.there
 
         lines : along (number_in s.ops) w' ≡ (side_of s).line ++ (n ∷ [])
         lines = along_pushed (number_in s.ops) w snd.ties.list place (Waiting t) p u ∙ ap (λ (k : ℕ). (side_of s).line ++ (k ∷ [])) (the_number s snd n o)
+
+    pub join_done : (p : ℕ) → p ≡ place → Joined p
+    join_done p here = subst Joined (sym here) joined
 
     -- ---- pend
     pub open_detached : (out : Side) → Detaches s n out → Open out n
@@ -363,27 +353,30 @@ module _ (s : Side) (snd : Sound s) where
         (new, ap (λ (q : model.Side Job). lookup q.ops n) d.side ∙ lookup_put (side_of s).ops n new (has_live (side_of s).ops n o.0 o.1))
 
     -- the node i of n holds another waiter, and the table is as it was
-    module _ (i : ℕ) (x : Waiter) (w' : WaitList) (node : node_at rows place ≡ Id (waiter_id i)) (here : held w' i ≡ Holding place x)
+    module _ (i : ℕ) (x : Waiter) (w' : WaitList) (node : node_at rows place ≡ Some (waiter_id i)) (here : held w' i ≡ Some (record { op = place; waiter = x }))
         (there : (k : ℕ) → (k ≡ i → ⊥) → held w' k ≡ held w k) where
-      pub side_renewed : side_of (record { live = s.live; spent = s.spent; ops = s.ops; waiters = w' })
-          ≡ record { ops = model.mark n (stage_in (Holding place x)) (side_of s).ops; line = along (number_in s.ops) w' }
+      pub side_renewed : side_of (record s { waiters = w' })
+          ≡ record { ops = model.mark n (stage_in (Some (record { op = place; waiter = x }))) (side_of s).ops; line = along (number_in s.ops) w' }
       side_renewed =
           side_again was s.ops still w' i (only_node was i w' node there)
           ∙ ap (λ (k : Table Deed). record { ops = k; line = along (number_in s.ops) w' })
-          (ap (λ (st : model.Stage). put (side_of s).ops n (model.re_stage (λ old. st) (deed_by w was))) stage ∙ sym (mark_row (stage_in (Holding place x))))
+          (ap (λ (st : model.Stage). put (side_of s).ops n (model.re_stage (λ old. st) (deed_by w was))) stage ∙ sym (mark_row (stage_in (Some (record { op = place; waiter = x })))))
         where
-          stage : stage_by w' was.mark ≡ stage_in (Holding place x)
+          stage : stage_by w' was.mark ≡ stage_in (Some (record { op = place; waiter = x }))
           stage = ap (stage_by w') (mark_at was.mark i (sym node_row ∙ node)) ∙ ap stage_in here
 
-      pub sound_renewed : Lined w w' i → Sound (record { live = s.live; spent = s.spent; ops = s.ops; waiters = w' })
+      pub sound_renewed : Lined w w' i → Sound (record s { waiters = w' })
       sound_renewed m = sound_again was s.ops still w' i (only_node was i w' node there) (tied x (sym node_row ∙ node) here) m
 
-    module _ (st : Stage) (kp : OptToken) (t : ℕ) (e : stage_of st ≡ stage_by w was.mark) (f : token_list kp ≡ model.kept (stage_of st)) where
+    module _ (p : ℕ) (at : p ≡ place) (st : Stage) (kp : Option ℕ) (t : ℕ) (told : stage_of st ≡ stage_by w (stored s p).mark) (f : option_to_list kp ≡ model.kept (stage_of st)) where
+      e : stage_of st ≡ stage_by w was.mark
+      e = told ∙ ap (λ (k : ℕ). stage_by w (stored s k).mark) at
+
       -- in line: the node is refreshed
-      pub pend_refresh : (old : ℕ) (ret : OptToken) (w' : WaitList) → kp ≡ Token old → token_list ret ≡ model.replaced (model.waiting old) t
-          → Refreshed w was.mark t w' → Pends s n t (record { retired = ret; side = record { live = s.live; spent = s.spent; ops = s.ops; waiters = w' } })
+      pub pend_refresh : (old : ℕ) (ret : Option ℕ) (w' : WaitList) → kp ≡ Some old → option_to_list ret ≡ model.replaced (model.waiting old) t
+          → Refreshed w (stored s p).mark t w' → Pends s n t (record { retired = ret; side = record s { waiters = w' } })
       unfolding side_of
-      pend_refresh old ret w' g h u =
+      pend_refresh old ret w' g h changed =
           record {
             sound = sound_renewed i (Waiting t) w' node here r.there (record {
               sound = r.sound;
@@ -400,28 +393,28 @@ module _ (s : Side) (snd : Sound s) where
           }
         where
           waits : stage_by w was.mark ≡ model.waiting old
-          waits = sym e ∙ kept_some (stage_of st) old (sym (ap token_list g) ∙ f)
+          waits = sym e ∙ kept_some (stage_of st) old (sym (ap option_to_list g) ∙ f)
 
-          a : (i : ℕ) × (was.mark ≡ At (waiter_id i)) × (op : ℕ) × (held w i ≡ Holding op (Waiting old))
+          a : (i : ℕ) × (was.mark ≡ At (waiter_id i)) × (op : ℕ) × (held w i ≡ Some (record { op = op; waiter = Waiting old }))
           a = node_waits w was.mark old waits
 
           i : ℕ
           i = a.0
 
-          node : node_at rows place ≡ Id (waiter_id i)
+          node : node_at rows place ≡ Some (waiter_id i)
           node = node_row ∙ ap node_of a.1
 
           r : Refreshes w i (Waiting t) w'
-          r = u i (ap node_of a.1)
+          r = changed i (ap (λ (k : ℕ). node_of (stored s k).mark) at ∙ ap node_of a.1)
 
-          here : held w' i ≡ Holding place (Waiting t)
+          here : held w' i ≡ Some (record { op = place; waiter = Waiting t })
           here = r.here ∙ ap (renew (Waiting t)) (snd.ties.owned.forth place i node).1
 
-          stage_of_lem : (d : Deed) → lookup (side_of s).ops n ≡ some d → d.stage ≡ model.waiting old
+          stage_of_lem : (d : Deed) → lookup (side_of s).ops n ≡ Some d → d.stage ≡ model.waiting old
           stage_of_lem d q = ap (λ (z : Deed). z.stage) (the_deed s snd n o d q) ∙ waits
 
       -- else it joins the tail
-      pub pend_join : (out r : Side) → kp ≡ NoToken → Detaches s n out → Joins out n t r → Pends s n t (record { retired = NoToken; side = r })
+      pub pend_join : (out r : Side) → kp ≡ None → Detaches s n out → Joins out n t r → Pends s n t (record { retired = None; side = r })
       pend_join out r g u v =
           record {
             sound = v.sound;
@@ -440,23 +433,23 @@ module _ (s : Side) (snd : Sound s) where
             retired = λ d q. (kept_none d.stage n t (side_of s).line (none_kept d q)).1;
           }
         where
-          none_kept : (d : Deed) → lookup (side_of s).ops n ≡ some d → [] ≡ model.kept d.stage
-          none_kept d q = sym (ap token_list g) ∙ (f ∙ ap model.kept (e ∙ sym (ap (λ (z : Deed). z.stage) (the_deed s snd n o d q))))
+          none_kept : (d : Deed) → lookup (side_of s).ops n ≡ Some d → [] ≡ model.kept d.stage
+          none_kept d q = sym (ap option_to_list g) ∙ (f ∙ ap model.kept (e ∙ sym (ap (λ (z : Deed). z.stage) (the_deed s snd n o d q))))
 
-          out_of_line : (k : ℕ) → Memᴰ k (line w) → node_at rows place ≡ Id (waiter_id k) → ⊥
+          out_of_line : (k : ℕ) → Memᴰ k (line w) → node_at rows place ≡ Some (waiter_id k) → ⊥
           out_of_line k m node =
               let h = snd.ties.stands k m in
               let p : stage_by w was.mark ≡ model.waiting h.1 =
               ap (stage_by w) (mark_at was.mark k (sym node_row ∙ node)) ∙ ap stage_in h.2 in
-              let x : [] ≡ h.1 ∷ [] = sym (ap token_list g) ∙ (f ∙ ap model.kept (e ∙ p)) in
+              let x : [] ≡ h.1 ∷ [] = sym (ap option_to_list g) ∙ (f ∙ ap model.kept (e ∙ p)) in
               let z : ◌≡◌ {A = ℕ} 0 1 = cc in
               omega arith
 
 -- ---- end: an operation that has no node leaves its place, at the next turn
-module _ (s : Side) (snd : Sound s) (n : ℕ) (o : Open s n) (alone : Alone s n) (x : Op) (live' spent' : Live) (left : x ≡ blank_op (n / 64 + 1))
-    (gone : live_of live' ≡ set (live_of s.live) (n % 64) false) (over : live_of spent' ≡ spent_by (live_of s.spent) (n % 64) (n / 64 + 1)) where
+module _ (s : Side) (snd : Sound s) (n : ℕ) (o : Open s n) (alone : Alone s n) (x : Op) (p : Places) (left : x ≡ blank_op (n / 64 + 1))
+    (gone : live_of p.live ≡ set (live_of s.places.live) (n % 64) false) (over : live_of p.spent ≡ spent_by (live_of s.places.spent) (n % 64) (n / 64 + 1)) where
   abbrev now : Side
-  now = record { live = live'; spent = spent'; ops = set s.ops (n % 64) x; waiters = s.waiters }
+  now = record s { places = p; ops = set s.ops (n % 64) x }
 
   is : is_live (lookup (side_of s).ops n) ≡ true
   is = ap is_live o.1
@@ -465,48 +458,55 @@ module _ (s : Side) (snd : Sound s) (n : ℕ) (o : Open s n) (alone : Alone s n)
   unfolding side_of
   leaves_sound =
       record {
-        used = closed_used turn_of (deed_by s.waiters) fresh_op 32 (omega arith) s.live s.spent s.ops snd.used n is x (ap turn_of left) live' spent' gone over;
-        wiped = wiped_set (live_of s.live) (live_of live') s.ops (n % 64) x inside
-            (λ k d. ap (λ (l : List Bool). get_or l k false) gone ∙ get_or-set_other (live_of s.live) (n % 64) k false false d)
+        used = closed_used turn_of (deed_by s.waiters) fresh_op 32 (omega arith) s.places.live s.places.spent s.ops snd.used n is x (ap turn_of left) p.live p.spent gone over;
+        wiped = wiped_set (live_of s.places.live) (live_of p.live) s.ops (n % 64) x inside
+            (λ k d. ap (λ (l : List Bool). get_or l k false) gone ∙ get_or-set_other (live_of s.places.live) (n % 64) k false false d)
             (λ _. left ∙ ap blank_op (sym (ap turn_of left))) snd.wiped;
-        ties = subst (λ (t : List (Option Op)). Ties t s.waiters) (sym rows) (ties_set (table_of s) s.waiters (n % 64) none alone refl snd.ties);
+        ties = subst (λ (t : List (Option Op)). Ties t s.waiters) (sym rows) (ties_set (table_of s) s.waiters (n % 64) None alone refl snd.ties);
       }
     where
       inside : n % 64 < length s.ops
       inside = omega (arith, is_small s snd n o, snd.used.sized)
 
-      rows : table_of now ≡ set (table_of s) (n % 64) none
+      rows : table_of now ≡ set (table_of s) (n % 64) None
       rows =
           ap (λ (l : List Bool). table l (set s.ops (n % 64) x)) gone
-          ∙ (held_close (live_of s.live) (set s.ops (n % 64) x) (n % 64)
-          ∙ (ap (λ (t : List (Option Op)). set t (n % 64) none) (held_write (live_of s.live) s.ops (n % 64) x (is_live_lem s snd n o))
-          ∙ set-set (table_of s) (n % 64) (some x) none))
+          ∙ (held_close (live_of s.places.live) (set s.ops (n % 64) x) (n % 64)
+          ∙ (ap (λ (t : List (Option Op)). set t (n % 64) None) (held_write (live_of s.places.live) s.ops (n % 64) x (is_live_lem s snd n o))
+          ∙ set-set (table_of s) (n % 64) (Some x) None))
 
   -- nobody in line has the place, so the numbers there are as they were
   leaves_side : side_of now ≡ record { ops = clear (side_of s).ops n; line = (side_of s).line }
   unfolding side_of
   leaves_side =
       ap₂ (λ (t : Table Deed) (l : List ℕ). record { ops = t; line = l })
-      (closed_places turn_of (deed_by s.waiters) fresh_op 32 (omega arith) s.live s.spent s.ops snd.used n is x (ap turn_of left) live' spent' gone over)
+      (closed_places turn_of (deed_by s.waiters) fresh_op 32 (omega arith) s.places.live s.places.spent s.ops snd.used n is x (ap turn_of left) p.live p.spent gone over)
       (lines_same s.ops (set s.ops (n % 64) x) s.waiters (λ k m. ap (λ (y : Op). op_of (held s.waiters k) + 64 * turn_of y) (get_or-set_other s.ops (n % 64) (op_of (held s.waiters k)) x fresh_op (apart k m))))
     where
       apart : (k : ℕ) → Memᴰ k (line s.waiters) → op_of (held s.waiters k) ≡ n % 64 → ⊥
       apart k m e = no_id k (sym alone ∙ (ap (node_at (table_of s)) (sym e) ∙ (line_place s snd k m).1))
 
-pub end_done : (s : Side) (snd : Sound s) (n : ℕ) (o : Open s n) (out : Side) (x : Op) (live' spent' : Live) → Detaches s n out → x ≡ blank_op (n / 64 + 1)
-    → live_of live' ≡ set (live_of out.live) (n % 64) false → live_of spent' ≡ spent_by (live_of out.spent) (n % 64) (n / 64 + 1)
-    → Ends s n (record { live = live'; spent = spent'; ops = set out.ops (n % 64) x; waiters = out.waiters })
-end_done s snd n o out x live' spent' u left gone over =
-    record {
-      sound = leaves_sound out u.sound n open' u.alone x live' spent' left gone over;
-      side =
-          leaves_side out u.sound n open' u.alone x live' spent' left gone over
-          ∙ (ap (λ (q : model.Side Job). record { ops = clear q.ops n; line = q.line }) d.side
-          ∙ ap (λ (t : Table Deed). record { ops = t; line = model.without n (side_of s).line }) (set-set (side_of s).ops (n % 64) (holds (n / 64) (model.re_stage (λ old. d.stage) o.0)) (vacant (suc (n / 64)))));
-    }
-  where
-    d : Detached s n o.0 out
-    d = u.side o.0 o.1
+module _ (s : Side) (snd : Sound s) (n : ℕ) (o : Open s n) where
+  abbrev Ended : ℕ → ℕ → Type 0
+  Ended i k = (out : Side) (x : Op) (p : Places) → Detaches s n out → x ≡ blank_op (k + 1)
+      → live_of p.live ≡ set (live_of out.places.live) i false → live_of p.spent ≡ spent_by (live_of out.places.spent) i (k + 1)
+      → Ends s n (record out { places = p; ops = set out.ops i x })
 
-    open' : Open out n
-    open' = open_detached s snd n o out u
+  ended : Ended (n % 64) (n / 64)
+  ended out x p u left gone over =
+      record {
+        sound = leaves_sound out u.sound n open' u.alone x p left gone over;
+        side =
+            leaves_side out u.sound n open' u.alone x p left gone over
+            ∙ (ap (λ (q : model.Side Job). record { ops = clear q.ops n; line = q.line }) d.side
+            ∙ ap (λ (t : Table Deed). record { ops = t; line = model.without n (side_of s).line }) (set-set (side_of s).ops (n % 64) (holds (n / 64) (model.re_stage (λ old. d.stage) o.0)) (vacant (suc (n / 64)))));
+      }
+    where
+      d : Detached s n o.0 out
+      d = u.side o.0 o.1
+
+      open' : Open out n
+      open' = open_detached s snd n o out u
+
+  pub end_done : (i k : ℕ) → i ≡ n % 64 → k ≡ n / 64 → Ended i k
+  end_done i k at turned = subst (λ (j : ℕ). Ended j k) (sym at) (subst (Ended (n % 64)) (sym turned) ended)

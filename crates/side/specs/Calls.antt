@@ -1,55 +1,52 @@
 -- WHAT EACH METHOD OF A SIDE DOES, by the model's move of that name. Assumes nothing.
 use Rattle.std.specs.Prelude.{ℕ, ◌%◌, ◌≡◌, [], ◌∷◌, ◌++◌, map, take}
-use Rattle.std.proofs.Math.Option.{Option, none, some}
-use Rattle.arena.specs.declared.OptWaiter.TheVariants.{Nobody, Id}
+use Rattle.std.specs.Prelude.{Option, None, Some, option_map, option_to_list}
+use Rattle.arena.specs.declared.Waiter.{Waiter}
 use Rattle.arena.specs.declared.Waiter.TheVariants.{Waiting, Called}
 use Rattle.arena.specs.Lists as lists
 use Rattle.waitlist.specs.declared.WaitList.{WaitList}
 use Rattle.waitlist.specs.declared.Held.{Held}
-use Rattle.waitlist.specs.declared.Held.TheVariants.{Empty, Holding}
 use Rattle.waitlist.specs.View.{waiter_id, held, line, along}
 use Rattle.waitlist.specs.Sound as wait
 use Rattle.waitlist.specs.Calls.{Refreshes}
 use Rattle.model.specs.Table.{blank, lookup, put, lowest}
 use Rattle.model.specs.Side as model
 use Rattle.model.specs.Queue.{Job}
-use Rattle.tables.specs.Meaning.{numbered}
-use Rattle.side.specs.declared.Cargo.{Cargo}
+use Rattle.wakes.specs.Tokens.{tokens_of}
+use Rattle.tables.specs.declared.Opened.{Opened}
 use Rattle.side.specs.declared.Mark.{Mark}
 use Rattle.side.specs.declared.Side.{Side}
-use Rattle.side.specs.declared.View.{View}
-use Rattle.side.specs.declared.Opened.{Opened}
+use Rattle.side.specs.declared.Entry.{Entry}
 use Rattle.side.specs.declared.Pended.{Pended}
 use Rattle.side.specs.declared.CalledOne.{CalledOne}
 use Rattle.side.specs.declared.Closed.{Closed}
 use Rattle.side.specs.declared.Woken.{Woken}
-use Rattle.side.specs.declared.Woken.TheVariants.{Nobody as NoOne, Op as OneOp}
-use Rattle.side.specs.Meaning.{Deed, carried, table_of, side_of, viewed, token_list, woken_tokens, woken_ops}
+use Rattle.side.specs.Meaning.{Deed, carried, table_of, side_of, deed_of}
 use Rattle.side.specs.Sound.{Sound, node_of, node_at}
 
 -- operation n is open; it has no node
 abbrev pub Open : Side → ℕ → Type 0
-Open s n = (op : Deed) × (lookup (side_of s).ops n ≡ some op)
+Open s n = (op : Deed) × (lookup (side_of s).ops n ≡ Some op)
 
 abbrev pub Alone : Side → ℕ → Type 0
-Alone s n = node_at (table_of s) (n % 64) ≡ Nobody
+Alone s n = node_at (table_of s) (n % 64) ≡ None
 
 pub record Fresh (r : Side) : Type 0 where
   pub sound : Sound r
   pub side : side_of r ≡ record { ops = blank 32; line = [] }
 
-abbrev pub Sees : Side → ℕ → View → Type 0
-Sees s n r = viewed r ≡ lookup (side_of s).ops n
+abbrev pub Sees : Side → ℕ → Option Entry → Type 0
+Sees s n r = option_map deed_of r ≡ lookup (side_of s).ops n
 
 -- ---- open
 abbrev pub opened_if : Option ℕ → ℕ → Job → model.Side Job → model.Side Job
-opened_if none h j q = q
-opened_if (some n) h j q = model.opened n h j q
+opened_if None h j q = q
+opened_if (Some n) h j q = model.opened n h j q
 
-pub record Opens (s : Side) (h : ℕ) (j : Cargo) (r : Opened) : Type 0 where
-  pub sound : Sound r.side
-  pub number : numbered r.number ≡ lowest (side_of s).ops
-  pub side : side_of r.side ≡ opened_if (numbered r.number) h (carried j) (side_of s)
+pub record Opens (s : Side) (h : ℕ) (j : Option ℕ) (r : Opened Side) : Type 0 where
+  pub sound : Sound r.next
+  pub number : r.number ≡ lowest (side_of s).ops
+  pub side : side_of r.next ≡ opened_if r.number h (carried j) (side_of s)
 
 -- ---- end
 pub record Ends (s : Side) (n : ℕ) (r : Side) : Type 0 where
@@ -59,39 +56,38 @@ pub record Ends (s : Side) (n : ℕ) (r : Side) : Type 0 where
 -- ---- pend
 pub record Pends (s : Side) (n t : ℕ) (r : Pended) : Type 0 where
   pub sound : Sound r.side
-  pub side : (op : Deed) → lookup (side_of s).ops n ≡ some op → side_of r.side ≡ model.pended op.stage n t (side_of s)
-  pub retired : (op : Deed) → lookup (side_of s).ops n ≡ some op → token_list r.retired ≡ model.replaced op.stage t
+  pub side : (op : Deed) → lookup (side_of s).ops n ≡ Some op → side_of r.side ≡ model.pended op.stage n t (side_of s)
+  pub retired : (op : Deed) → lookup (side_of s).ops n ≡ Some op → option_to_list r.retired ≡ model.replaced op.stage t
 
 -- ---- call_first
 pub record CallsOne (s : Side) (r : CalledOne) : Type 0 where
   pub sound : Sound r.side
   pub side : side_of r.side ≡ model.call_first (side_of s)
-  pub woken : woken_tokens r.woken ≡ model.first_token (side_of s)
-  pub number : woken_ops r.woken ≡ take 1 (side_of s).line
+  pub woken : option_to_list (option_map (λ w. w.token) r.woken) ≡ model.first_token (side_of s)
+  pub number : option_to_list (option_map (λ w. w.number) r.woken) ≡ take 1 (side_of s).line
 
--- operation n, whose node held this, was called
-abbrev pub woken_of : ℕ → Held → Woken
-woken_of n Empty = NoOne
-woken_of n (Holding op (Waiting t)) = OneOp n t
-woken_of n (Holding op Called) = NoOne
+-- operation n, whose waiter this was, was called
+abbrev pub woken_of : ℕ → Waiter → Option Woken
+woken_of n (Waiting t) = Some (record { number = n; token = t })
+woken_of n Called = None
 
 -- ---- close_line
 pub record Closes (s : Side) (r : Closed) : Type 0 where
   pub sound : Sound r.side
   pub side : side_of r.side ≡ model.closed_line (side_of s)
-  pub wakes : take r.wakes.n r.wakes.tokens ≡ model.all_tokens (side_of s)
+  pub wakes : tokens_of r.wakes ≡ model.all_tokens (side_of s)
 
 -- ---- the steps inside
 -- a node goes from the wait list
 pub record Leaves (w : WaitList) (i : ℕ) (r : WaitList) : Type 0 where
   pub sound : wait.Sound r
-  pub here : held r i ≡ Empty
+  pub here : held r i ≡ None
   pub there : (k : ℕ) → (k ≡ i → ⊥) → held r k ≡ held w k
-  pub reads : (f : Held → ℕ) → along f r ≡ map (λ (k : ℕ). f (held w k)) (lists.without i (line w))
+  pub reads : (f : Option Held → ℕ) → along f r ≡ map (λ (k : ℕ). f (held w k)) (lists.without i (line w))
   pub line : line r ≡ lists.without i (line w)
 
 abbrev pub Refreshed : WaitList → Mark → ℕ → WaitList → Type 0
-Refreshed w m t r = (i : ℕ) → node_of m ≡ Id (waiter_id i) → Refreshes w i (Waiting t) r
+Refreshed w m t r = (i : ℕ) → node_of m ≡ Some (waiter_id i) → Refreshes w i (Waiting t) r
 
 -- operation n is at some stage, has no node and is not in line; nothing else changes
 pub record Detached (s : Side) (n : ℕ) (op : Deed) (r : Side) : Type 0 where
@@ -101,7 +97,7 @@ pub record Detached (s : Side) (n : ℕ) (op : Deed) (r : Side) : Type 0 where
 pub record Detaches (s : Side) (n : ℕ) (r : Side) : Type 0 where
   pub sound : Sound r
   pub alone : Alone r n
-  pub side : (op : Deed) → lookup (side_of s).ops n ≡ some op → Detached s n op r
+  pub side : (op : Deed) → lookup (side_of s).ops n ≡ Some op → Detached s n op r
 
 -- operation n waits at the end of the line
 pub record Joins (s : Side) (n t : ℕ) (r : Side) : Type 0 where

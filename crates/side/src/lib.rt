@@ -5,27 +5,20 @@
 // A number is an operation's place (0 to 31) + 64 * its turn. Callers name operations by numbers; a wait node holds the place alone, in a byte.
 #![tactic(auto)]
 
-ghost use Rattle.std.specs.Prelude.{◌≡◌, map, ◌<◌, eqb, length};
+ghost use Rattle.std.specs.Prelude.{◌≡◌, ℕ, map, ◌<◌, eqb, length, option_map, option_to_list};
 ghost use Rattle.waitlist.specs.Sound as wait;
-ghost use Rattle.waitlist.specs.View.{is_nil, op_of};
+ghost use Rattle.waitlist.specs.View.{is_nil};
 ghost use Rattle.model.specs.Side as model;
-ghost use Rattle.model.specs.Table.{of, sum, turn, in_place, was_closed};
-ghost use Rattle.side.specs.Meaning.{value_in, is_value, cargo_by, blank_op, fresh_op, side_of, place_in, stage_of, stage_by, deed_of, viewed, token_list, voided, counts};
+ghost use Rattle.model.specs.Table.{sum, turn, in_place, was_closed};
+ghost use Rattle.side.specs.Meaning.{cargo_of, idle_op, blank_op, fresh_op, side_of, place_in, stage_of, told_by, stage_by, deed_of, voided, Deed, Tests};
 ghost use Rattle.side.specs.Sound.{Sound};
 ghost use Rattle.side.specs.Calls.{Open, Alone, Fresh, Sees, Leaves, Refreshed, Detaches, Joins, Opens, Ends, Pends, CallsOne, Closes, woken_of};
 
-use arena::{OptWaiter, Waiter, WaiterId};
+use arena::{Waiter, WaiterId};
 use live::Live;
-use tables::Number;
-use waitlist::{Held, WaitList};
+use tables::{Number, Numbered, Opened, Places};
+use waitlist::WaitList;
 use wakes::Wakes;
-
-// What an operation carries: a send its value, a reserve and a recv nothing.
-#[derive(Clone, Copy)]
-pub enum Cargo {
-    Nothing,
-    Value(u32),
-}
 
 // Where an operation waits: not polled yet; in this node, in line or called; nowhere, since its line was closed for good.
 #[derive(Clone, Copy)]
@@ -36,7 +29,7 @@ pub enum Mark {
 }
 
 // The record of a place: how many of its turns are over, and the operation that is open there, if one is. The owner is a handle's whole number.
-// What an operation carries stands as a value and whether there is one, not as a `Cargo`, and the numbers stand first: that keeps a record at 16 bytes.
+// What an operation carries stands as a value and whether there is one, not as an `Option`, and the numbers stand first: that keeps a record at 16 bytes.
 #[derive(Clone, Copy)]
 pub struct Op {
     value: u32,
@@ -46,14 +39,16 @@ pub struct Op {
     mark: Mark,
 }
 
-// `live` are the places with an open operation, `spent` those whose turns are used up.
-// Both ends are numbers that calls look at, the line's head and the live word, so that what lies between is copied in one piece.
+const _: () = prove!(size_of::<Op>() == 16);
+
+// Both ends are numbers that calls look at, the line's head and the words of the places, so that what lies between is copied in one piece.
+// What every side keeps, `Sound`, stands in the clauses and not in a ghost field: it holds the wait list's own `Sound`, which has the line's order
+// as a value, and a ghost field takes a bare fact alone.
 #[derive(Clone, Copy)]
 pub struct Side {
     waiters: WaitList,
     ops: [Op; 32],
-    spent: Live,
-    live: Live,
+    places: Places,
 }
 
 // How far an operation is, as its caller sees it.
@@ -65,47 +60,31 @@ pub enum Stage {
     Void,
 }
 
+// An open operation, as its caller sees it. A send carries its value, a reserve and a recv nothing.
 #[derive(Clone, Copy)]
 pub struct Entry {
     pub owner: u32,
-    pub cargo: Cargo,
+    pub cargo: Option<u32>,
     pub stage: Stage,
 }
 
+// An operation that was called, with the token to wake.
 #[derive(Clone, Copy)]
-pub enum View {
-    Missing,
-    Found(Entry),
+pub struct Woken {
+    pub number: u32,
+    pub token: u32,
 }
 
-#[derive(Clone, Copy)]
-pub enum OptToken {
-    NoToken,
-    Token(u32),
-}
-
-// The operation that was called, with the token to wake.
-#[derive(Clone, Copy)]
-pub enum Woken {
-    Nobody,
-    Op { number: u32, token: u32 },
-}
-
-#[derive(Clone, Copy)]
-pub struct Opened {
-    pub number: Number,
-    pub side: Side,
-}
-
+// What a move answers, with the side after it: a struct for each, since the field's name says what the answer is.
 #[derive(Clone, Copy)]
 pub struct Pended {
-    pub retired: OptToken,
+    pub retired: Option<u32>,
     pub side: Side,
 }
 
 #[derive(Clone, Copy)]
 pub struct CalledOne {
-    pub woken: Woken,
+    pub woken: Option<Woken>,
     pub side: Side,
 }
 
@@ -113,36 +92,6 @@ pub struct CalledOne {
 pub struct Closed {
     pub wakes: Wakes,
     pub side: Side,
-}
-
-impl Cargo {
-    // The value; 0 where there is none.
-    fn value(self) -> u32
-        ensures { result ≡ value_in self }
-    {
-        match self {
-            Cargo::Nothing => 0,
-            Cargo::Value(v) => v,
-        }
-    }
-
-    fn carries(self) -> bool
-        ensures { result ≡ is_value self }
-    {
-        match self {
-            Cargo::Nothing => false,
-            Cargo::Value(_) => true,
-        }
-    }
-
-    fn of(carries: bool, value: u32) -> Cargo
-        ensures { result ≡ cargo_by carries value }
-    {
-        if carries {
-            return Cargo::Value(value);
-        }
-        Cargo::Nothing
-    }
 }
 
 impl Op {
@@ -159,48 +108,37 @@ impl Op {
     fn blank(turn: u32) -> Op
         ensures { result ≡ blank_op turn }
     {
+        Op::idle(0, None, turn)
+    }
+
+    // An operation that is not polled yet.
+    fn idle(owner: u32, cargo: Option<u32>, turn: u32) -> Op
+        ensures { result ≡ idle_op owner cargo turn }
+    {
         Op {
-            value: 0,
-            owner: 0,
-            turn: turn,
-            carries: false,
+            value: cargo.unwrap_or(0),
+            owner,
+            turn,
+            carries: cargo.is_some(),
             mark: Mark::Idle,
         }
+    }
+
+    fn cargo(self) -> Option<u32>
+        ensures { result ≡ cargo_of self }
+    {
+        self.carries.then_some(self.value)
     }
 }
 
 impl Stage {
     // The token that the queue keeps for an operation: it has one just where it is in line.
-    pub fn kept(self) -> OptToken
-        ensures { token_list result ≡ model.kept (stage_of self) }
+    pub fn kept(self) -> Option<u32>
+        ensures { option_to_list result ≡ model.kept (stage_of self) }
     {
         match self {
-            Stage::Waiting(t) => OptToken::Token(t),
-            Stage::Idle => OptToken::NoToken,
-            Stage::Called => OptToken::NoToken,
-            Stage::Void => OptToken::NoToken,
-        }
-    }
-}
-
-// What the counts are of: the operations of a handle, those that are called, those that were polled.
-#[derive(Clone, Copy)]
-enum Asked {
-    Owned(u32),
-    Called,
-    Polled,
-}
-
-// 1 or 0, as the counts take an operation; nothing counts at a number that is not open.
-impl Stage {
-    fn called(self) -> u32
-        ensures { result ≡ model.is_called (stage_of self) }
-    {
-        match self {
-            Stage::Called => 1,
-            Stage::Idle => 0,
-            Stage::Waiting(_) => 0,
-            Stage::Void => 0,
+            Stage::Waiting(token) => Some(token),
+            _ => None,
         }
     }
 
@@ -208,47 +146,29 @@ impl Stage {
     pub fn is_called(self) -> bool
         ensures { result ≡ eqb (model.is_called (stage_of self)) 1 }
     {
-        let called = self.called();
-        called == 1
+        matches!(self, Stage::Called)
     }
 
-    fn polled(self) -> u32
-        ensures { result ≡ model.polled (stage_of self) }
+    fn is_polled(self) -> bool
+        ensures { result ≡ eqb (model.polled (stage_of self)) 1 }
     {
-        match self {
-            Stage::Idle => 0,
-            Stage::Waiting(_) => 1,
-            Stage::Called => 1,
-            Stage::Void => 1,
+        !matches!(self, Stage::Idle)
+    }
+}
+
+// The stage that a node's waiter tells.
+impl From<Waiter> for Stage {
+    ghost from_gives = { λ waiter stage. stage_of stage ≡ told_by waiter };
+
+    fn from(waiter: Waiter) -> Stage {
+        match waiter {
+            Waiter::Waiting(token) => Stage::Waiting(token),
+            Waiter::Called => Stage::Called,
         }
     }
 }
 
-impl Entry {
-    fn counted(self, asked: Asked) -> u32
-        ensures { result ≡ counts asked (deed_of self) }
-    {
-        let stage = self.stage;
-        match asked {
-            Asked::Owned(owner) => if owner == self.owner { 1 } else { 0 },
-            Asked::Called => stage.called(),
-            Asked::Polled => stage.polled(),
-        }
-    }
-}
-
-impl View {
-    fn counted(self, asked: Asked) -> u32
-        ensures { result ≡ of (counts asked) (viewed self) }
-    {
-        match self {
-            View::Missing => 0,
-            View::Found(e) => e.counted(asked),
-        }
-    }
-}
-
-// How far an operation with this mark is. (A node that the mark names is there: that arm is never taken.)
+// How far an operation with this mark is. (A node that the mark names is there: the arm for none is never taken.)
 fn stage_of(waiters: WaitList, mark: Mark) -> Stage
     requires { wait.Sound waiters }
     ensures { stage_of result ≡ stage_by waiters mark }
@@ -256,16 +176,10 @@ fn stage_of(waiters: WaitList, mark: Mark) -> Stage
     match mark {
         Mark::Idle => Stage::Idle,
         Mark::Void => Stage::Void,
-        Mark::At(id) => {
-            let held = waiters.waiter(id);
-            match held {
-                Held::Empty => Stage::Void,
-                Held::Holding { op: _, waiter } => match waiter {
-                    Waiter::Waiting(t) => Stage::Waiting(t),
-                    Waiter::Called => Stage::Called,
-                },
-            }
-        }
+        Mark::At(id) => match waiters.waiter(id) {
+            Some(held) => Stage::from(held.waiter),
+            None => Stage::Void,
+        },
     }
 }
 
@@ -274,9 +188,7 @@ fn remove_waiter(waiters: WaitList, id: WaiterId) -> WaitList
     requires { wait.Sound waiters }
     ensures { Leaves waiters id.0.0 result }
 {
-    let out = waiters.unlink_waiter(id);
-    let gone = out.remove_unlinked(id);
-    gone.list
+    waiters.unlink_waiter(id).remove_unlinked(id).list
 }
 
 // The node, if the mark names one, holds another token.
@@ -286,44 +198,24 @@ fn refreshed(waiters: WaitList, mark: Mark, token: u32) -> WaitList
 {
     match mark {
         Mark::At(id) => waiters.set_waiter(id, Waiter::Waiting(token)),
-        Mark::Idle => waiters,
-        Mark::Void => waiters,
+        Mark::Idle | Mark::Void => waiters,
     }
 }
 
 // The token that goes back where `new` takes the place of `old`.
-fn replaced(old: u32, new: u32) -> OptToken
-    ensures { token_list result ≡ model.replaced (model.waiting old) new }
+fn replaced(old: u32, new: u32) -> Option<u32>
+    ensures { option_to_list result ≡ model.replaced (model.waiting old) new }
 {
-    if old == new {
-        return OptToken::NoToken;
-    }
-    OptToken::Token(old)
+    (old != new).then_some(old)
 }
 
-// The place of the operation that a node belongs to.
-fn place_in(held: Held) -> u32
-    ensures { result ≡ op_of held }
+// Operation n, whose waiter this was, was called.
+fn woken_of(n: u32, waiter: Waiter) -> Option<Woken>
+    ensures { result ≡ woken_of n waiter }
 {
-    match held {
-        Held::Empty => 0,
-        Held::Holding { op, waiter: _ } => op as u32,
-    }
-}
-
-// Operation n, whose node held this, was called.
-fn woken_of(n: u32, held: Held) -> Woken
-    ensures { result ≡ woken_of n held }
-{
-    match held {
-        Held::Empty => Woken::Nobody,
-        Held::Holding { op: _, waiter } => match waiter {
-            Waiter::Waiting(t) => Woken::Op {
-                number: n,
-                token: t,
-            },
-            Waiter::Called => Woken::Nobody,
-        },
+    match waiter {
+        Waiter::Waiting(token) => Some(Woken { number: n, token }),
+        Waiter::Called => None,
     }
 }
 
@@ -331,217 +223,120 @@ fn woken_of(n: u32, held: Held) -> Woken
 fn void(op: Op) -> Op
     ensures { result ≡ voided op }
 {
-    let mark = op.mark;
-    match mark {
-        Mark::Idle => op,
-        Mark::Void => op,
+    match op.mark {
+        Mark::Idle | Mark::Void => op,
         Mark::At(_) => Op {
-            value: op.value,
-            owner: op.owner,
-            turn: op.turn,
-            carries: op.carries,
             mark: Mark::Void,
+            ..op
         },
     }
 }
 
-fn void_all(ops: [Op; 32]) -> [Op; 32]
-    requires { length ops ≡ 32 }
-    ensures { result ≡ map voided ops }
-{
-    let mut out = ops;
-    let mut i: usize = 0;
-    while i < 32 {
-        let op = out[i];
-        let new = void(op);
-        out[i] = new;
-        i += 1;
+impl Numbered for Side {
+    ghost Shown = { Deed };
+
+    ghost table_of = { λ side. (side_of side).ops };
+
+    ghost kept = { Sound };
+
+    fn live_places(self) -> Live {
+        self.places.live
     }
-    out
+
+    fn turn_at(self, place: u32) -> u32 {
+        if place < Op::LIMIT {
+            return self.ops[place as usize].turn;
+        }
+        0
+    }
 }
 
 impl Side {
     pub fn fresh() -> Side
         ensures { Fresh result }
     {
-        let live = Live::fresh();
-        let op = Op::fresh();
-        let ops = [op; 32];
-        let waiters = WaitList::new();
         Side {
-            waiters: waiters,
-            ops: ops,
-            spent: live,
-            live: live,
+            waiters: WaitList::new(),
+            ops: [Op::fresh(); 32],
+            places: Places::fresh(),
         }
-    }
-
-    // How many turns of a place are over: the turn of the operation that is open there, or of the next one.
-    fn turn_at(self, place: u32) -> u32
-        requires { Sound self }
-        ensures { result ≡ turn (place_in self place) }
-    {
-        if place < Op::LIMIT {
-            let i = place as usize;
-            let op = self.ops[i];
-            return op.turn;
-        }
-        0
     }
 
     // The operation at a place, if one is open there.
-    fn at(self, place: u32) -> View
+    fn at(self, place: u32) -> Option<Entry>
         requires { Sound self }
-        ensures { viewed result ≡ in_place (place_in self place) }
+        ensures { option_map deed_of result ≡ in_place (place_in self place) }
     {
-        let live = self.live;
-        if live.has(place) {
-            let i = place as usize;
-            let op = self.ops[i];
-            let mark = op.mark;
-            let cargo = Cargo::of(op.carries, op.value);
-            let waiters = self.waiters;
-            let stage = stage_of(waiters, mark);
-            return View::Found(Entry {
+        if self.places.live.has(place) {
+            let op = self.ops[place as usize];
+            return Some(Entry {
                 owner: op.owner,
-                cargo: cargo,
-                stage: stage,
+                cargo: op.cargo(),
+                stage: stage_of(self.waiters, op.mark),
             });
         }
-        View::Missing
+        None
     }
 
     // The operation with the number n, if it is open: an operation of another turn at its place is another operation.
-    pub fn get(self, n: u32) -> View
+    pub fn get(self, n: u32) -> Option<Entry>
         requires { Sound self }
         ensures { Sees self n result }
     {
-        let place = n % 64;
-        let turn = self.turn_at(place);
-        if turn == n / 64 {
-            return self.at(place);
+        let number = Number::from(n);
+        if self.turn_at(number.place) == number.turn {
+            return self.at(number.place);
         }
-        View::Missing
-    }
-
-    // Was a number given, and is it closed? Then its place has gone past its turn. A place past the limit was never given.
-    pub fn closed(self, n: u32) -> bool
-        requires { Sound self }
-        ensures { result ≡ was_closed (side_of self).ops n }
-    {
-        let place = n % 64;
-        let turn = self.turn_at(place);
-        n / 64 < turn
+        None
     }
 
     // An operation is opened at the lowest free place with a turn left, if there is one.
-    pub fn open(self, owner: u32, cargo: Cargo) -> Opened
+    pub fn open(mut self, owner: u32, cargo: Option<u32>) -> Opened<Side>
         requires { Sound self }
         ensures { Opens self owner cargo result }
     {
-        let live = self.live;
-        let spent = self.spent;
-        let place = live.lowest_beside(spent);
-        if place < Op::LIMIT {
-            let i = place as usize;
-            let was = self.ops[i];
-            let turn = was.turn;
-            let value = cargo.value();
-            let carries = cargo.carries();
-            let mut ops = self.ops;
-            ops[i] = Op {
-                value: value,
-                owner: owner,
-                turn: turn,
-                carries: carries,
-                mark: Mark::Idle,
-            };
-            let grown = live.with(place);
-            let number = tables::number_at(place, turn);
-            let waiters = self.waiters;
+        let place = self.places.lowest_free();
+        if place >= Op::LIMIT {
             return Opened {
-                number: Number::Given(number),
-                side: Side {
-                    waiters: waiters,
-                    ops: ops,
-                    spent: spent,
-                    live: grown,
-                },
+                number: None,
+                next: self,
             };
         }
+        let turn = self.ops[place as usize].turn;
+        self.ops[place as usize] = Op::idle(owner, cargo, turn);
+        self.places = self.places.opened(place);
         Opened {
-            number: Number::NoRoom,
-            side: self,
+            number: Some(tables::number_at(place, turn)),
+            next: self,
         }
     }
 
     // Operation n has no node any more, in line or called.
-    fn detach(self, n: u32) -> Side
+    fn detach(mut self, n: u32) -> Side
         requires sound { Sound self }
         requires opened { Open self n }
         ensures { Detaches self n result }
     {
-        let place = n % 64;
-        let i = place as usize;
-        let op = self.ops[i];
-        let mark = op.mark;
-        match mark {
-            Mark::Idle => self,
-            Mark::Void => self,
-            Mark::At(id) => {
-                let mut ops = self.ops;
-                ops[i] = Op {
-                    value: op.value,
-                    owner: op.owner,
-                    turn: op.turn,
-                    carries: op.carries,
-                    mark: Mark::Idle,
-                };
-                let line = self.waiters;
-                let waiters = remove_waiter(line, id);
-                let spent = self.spent;
-                let live = self.live;
-                Side {
-                    waiters: waiters,
-                    ops: ops,
-                    spent: spent,
-                    live: live,
-                }
-            }
+        let i = Number::from(n).place as usize;
+        if let Mark::At(id) = self.ops[i].mark {
+            self.ops[i].mark = Mark::Idle;
+            self.waiters = remove_waiter(self.waiters, id);
         }
+        self
     }
 
     // Operation n, which has no node, joins the end of the line. There is room for its node: each other node has an operation of its own.
-    fn join(self, n: u32, token: u32) -> Side
+    fn join(mut self, n: u32, token: u32) -> Side
         requires sound { Sound self }
         requires opened { Open self n }
         requires alone { Alone self n }
         ensures { Joins self n token result }
     {
-        let place = n % 64;
-        let i = place as usize;
-        let op = self.ops[i];
-        let line = self.waiters;
-        let number = place as u8;
-        let put = line.push_back(number, Waiter::Waiting(token));
-        let id = put.id;
-        let waiters = put.list;
-        let mut ops = self.ops;
-        ops[i] = Op {
-            value: op.value,
-            owner: op.owner,
-            turn: op.turn,
-            carries: op.carries,
-            mark: Mark::At(id),
-        };
-        let spent = self.spent;
-        let live = self.live;
-        Side {
-            waiters: waiters,
-            ops: ops,
-            spent: spent,
-            live: live,
-        }
+        let place = Number::from(n).place;
+        let put = self.waiters.push_back(place as u8, Waiter::Waiting(token));
+        self.ops[place as usize].mark = Mark::At(put.id);
+        self.waiters = put.list;
+        self
     }
 
     // Operation n ends, and leaves the line if it stands there. One more turn of its place is over, and the place is spent after its last.
@@ -550,64 +345,31 @@ impl Side {
         requires opened { Open self n }
         ensures { Ends self n result }
     {
-        let out = self.detach(n);
-        let place = n % 64;
-        let i = place as usize;
-        let turn = n / 64 + 1;
-        let blank = Op::blank(turn);
-        let mut ops = out.ops;
-        ops[i] = blank;
-        let before = out.spent;
-        let spent = tables::spent_by(before, place, turn);
-        let was = out.live;
-        let live = was.without(place);
-        let waiters = out.waiters;
-        Side {
-            waiters: waiters,
-            ops: ops,
-            spent: spent,
-            live: live,
-        }
+        let mut out = self.detach(n);
+        let Number { place, turn } = Number::from(n);
+        let over = turn + 1;
+        out.ops[place as usize] = Op::blank(over);
+        out.places = out.places.closed(place, over);
+        out
     }
 
     // Operation n stays pending with the token: in line it keeps its place, else it joins the tail. (register of queue.rs)
-    pub fn pend(self, n: u32, token: u32) -> Pended
+    pub fn pend(mut self, n: u32, token: u32) -> Pended
         requires sound { Sound self }
         requires opened { Open self n }
         ensures { Pends self n token result }
     {
-        let place = n % 64;
-        let i = place as usize;
-        let op = self.ops[i];
-        let mark = op.mark;
-        let line = self.waiters;
-        let stage = stage_of(line, mark);
-        let kept = stage.kept();
-        match kept {
-            OptToken::Token(old) => {
-                let retired = replaced(old, token);
-                let waiters = refreshed(line, mark, token);
-                let ops = self.ops;
-                let spent = self.spent;
-                let live = self.live;
-                Pended {
-                    retired: retired,
-                    side: Side {
-                        waiters: waiters,
-                        ops: ops,
-                        spent: spent,
-                        live: live,
-                    },
-                }
-            }
-            OptToken::NoToken => {
-                let out = self.detach(n);
-                let side = out.join(n, token);
-                Pended {
-                    retired: OptToken::NoToken,
-                    side: side,
-                }
-            }
+        let mark = self.ops[Number::from(n).place as usize].mark;
+        let Some(old) = stage_of(self.waiters, mark).kept() else {
+            return Pended {
+                retired: None,
+                side: self.detach(n).join(n, token),
+            };
+        };
+        self.waiters = refreshed(self.waiters, mark, token);
+        Pended {
+            retired: replaced(old, token),
+            side: self,
         }
     }
 
@@ -616,34 +378,21 @@ impl Side {
         requires { Sound self }
         ensures { CallsOne self result }
     {
-        let line = self.waiters;
-        let out = wakes::call_first(line);
-        let who = out.who;
-        match who {
-            OptWaiter::Nobody => CalledOne {
-                woken: Woken::Nobody,
+        let out = wakes::call_first(self.waiters);
+        let Some(held) = out.held else {
+            return CalledOne {
+                woken: None,
                 side: self,
+            };
+        };
+        let place = u32::from(held.op);
+        let number = tables::number_at(place, self.turn_at(place));
+        CalledOne {
+            woken: woken_of(number, held.waiter),
+            side: Side {
+                waiters: out.list,
+                ..self
             },
-            OptWaiter::Id(_) => {
-                let held = out.held;
-                let place = place_in(held);
-                let turn = self.turn_at(place);
-                let number = tables::number_at(place, turn);
-                let woken = woken_of(number, held);
-                let waiters = out.list;
-                let ops = self.ops;
-                let spent = self.spent;
-                let live = self.live;
-                CalledOne {
-                    woken: woken,
-                    side: Side {
-                        waiters: waiters,
-                        ops: ops,
-                        spent: spent,
-                        live: live,
-                    },
-                }
-            }
         }
     }
 
@@ -652,20 +401,12 @@ impl Side {
         requires { Sound self }
         ensures { Closes self result }
     {
-        let line = self.waiters;
-        let wakes = wakes::wake_all(line);
-        let was = self.ops;
-        let ops = void_all(was);
-        let waiters = WaitList::new();
-        let spent = self.spent;
-        let live = self.live;
         Closed {
-            wakes: wakes,
+            wakes: wakes::wake_all(self.waiters),
             side: Side {
-                waiters: waiters,
-                ops: ops,
-                spent: spent,
-                live: live,
+                waiters: WaitList::new(),
+                ops: self.ops.map(void),
+                ..self
             },
         }
     }
@@ -675,8 +416,7 @@ impl Side {
         requires { Sound self }
         ensures { result ≡ is_nil (side_of self).line }
     {
-        let waiters = self.waiters;
-        waiters.is_empty()
+        self.waiters.is_empty()
     }
 
     // How many wait in line.
@@ -684,22 +424,20 @@ impl Side {
         requires { Sound self }
         ensures { result ≡ length (side_of self).line }
     {
-        let waiters = self.waiters;
-        let wakes = wakes::wake_all(waiters);
-        wakes.n as u32
+        self.count_where(|entry| matches!(entry.stage, Stage::Waiting(_)))
     }
 
-    fn count(self, asked: Asked) -> u32
-        requires { Sound self }
-        ensures { result ≡ sum (counts asked) (side_of self).ops }
+    // How many of the open operations pass a test.
+    fn count_where<F: Fn(Entry) -> bool>(self, passes: F) -> u32
+        ghost counts: { Deed → ℕ }
+        requires sound { Sound self }
+        requires callable { F.IsAlwaysCallable passes }
+        requires counted { Tests (F.post passes) counts }
+        ensures { result ≡ sum counts (side_of self).ops }
     {
-        let mut total: u32 = 0;
-        let mut place: u32 = 0;
-        while place < Op::LIMIT {
-            let view = self.at(place);
-            let one = view.counted(asked);
-            total += one;
-            place += 1;
+        let mut total = 0;
+        for place in 0..Op::LIMIT {
+            total += u32::from(self.at(place).is_some_and(&passes));
         }
         total
     }
@@ -709,7 +447,7 @@ impl Side {
         requires { Sound self }
         ensures { result ≡ model.owned_by owner (side_of self) }
     {
-        self.count(Asked::Owned(owner))
+        self.count_where(|entry| entry.owner == owner)
     }
 
     // How many are called.
@@ -717,7 +455,7 @@ impl Side {
         requires { Sound self }
         ensures { result ≡ model.called_count (side_of self) }
     {
-        self.count(Asked::Called)
+        self.count_where(|entry| entry.stage.is_called())
     }
 
     // How many were polled.
@@ -725,6 +463,6 @@ impl Side {
         requires { Sound self }
         ensures { result ≡ model.polled_count (side_of self) }
     {
-        self.count(Asked::Polled)
+        self.count_where(|entry| entry.stage.is_polled())
     }
 }

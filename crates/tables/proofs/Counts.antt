@@ -1,11 +1,15 @@
 -- A count by a loop over the places of a table: what is passed sums to the total, and in the end all is passed. One law for every kind of
 -- record. Assumes nothing.
 use Prim.Native.Nat.{ℕ, suc, ◌+◌, ◌<◌, ◌≤◌}
-use mathlib.Core.Path.{◌≡◌, refl, sym, ap, ◌∙◌}
+use mathlib.Core.Path.{◌≡◌, refl, sym, ap, ap₂, ◌∙◌}
 use mathlib.Core.List.{[], ◌∷◌, ◌++◌}
 use native.Mathlib.Numerals.{add-one}
 use native.Mathlib.Omega.{arith}
-use mathlib.Core.Bool.{true}
+use mathlib.Core.Bool.{Bool, true}
+use Rattle.std.proofs.lemmas.List.Sums.{sum_by-cons}
+use Rattle.std.specs.List.{count_by, range_with_len}
+use Rattle.std.specs.Prelude.{cond}
+use native.Mathlib.Nat.{add-zero}
 use borrow.Author.Tests.{leb-true}
 use lib.Dec.{leb}
 use lib.ListN.{length, get_or, take, length-take}
@@ -58,3 +62,12 @@ module _ {A : Type 0} (f : A → ℕ) where
         by : (p : Place A) → of f (in_place p) ≤ 1
         by (vacant k) = omega arith
         by (holds k a) = one a
+
+-- a count by a chain: as many places pass the test as the sum of f over the table, in which a record counts as one or not at all
+pub counted_by : {A : Type 0} (f : A → ℕ) (t : Table A) (start : ℕ) (p : ℕ → Bool)
+    → ((i : ℕ) → cond (p (start + i)) 1 0 ≡ of f (in_place (get_or t i (vacant 0)))) → count_by p (range_with_len start (length t)) ≡ sum f t
+counted_by f [] start p e = refl
+counted_by f (x ∷ t) start p e =
+    let first : cond (p start) 1 0 ≡ of f (in_place x) = ap (λ (i : ℕ). cond (p i) 1 0) (sym (add-zero start)) ∙ e 0 in
+    let rest = counted_by f t (start + 1) p (λ i. let same : start + 1 + i ≡ start + suc i = omega arith in ap (λ (k : ℕ). cond (p k) 1 0) same ∙ e (suc i)) in
+    sum_by-cons (λ (i : ℕ). cond (p i) 1 0) start (range_with_len (start + 1) (length t)) ∙ ap₂ (λ (n m : ℕ). n + m) first rest

@@ -1,44 +1,48 @@
 -- What each way through the methods of handles and of permits shows: the laws of words at their two kinds of record. Assumes nothing.
-use Rattle.std.specs.Prelude.{if◌then◌else◌}
 use Prim.Native.Nat.{ℕ, zero, suc, ◌+◌, ◌*◌, ◌/◌, ◌%◌, ◌<◌, ◌≤◌}
 use mathlib.Core.Path.{◌≡◌, refl, sym, ap, ◌∙◌, subst}
 use mathlib.Core.Bool.{Bool, true, false}
 use mathlib.Core.List.{List}
-use mathlib.Core.Option.{some}
+use Rattle.std.specs.Prelude.{Option, None, Some, cond, if◌then◌else◌}
+use Rattle.std.specs.List.{count_by, range_with_len}
+use native.Mathlib.Nat.{zero-add}
 use native.Mathlib.Omega.{arith}
 use native.Mathlib.Decide.{ℕ_discrete}
-use lib.Dec.{eqb, ltb}
+use lib.Dec.{eqb}
 use lib.ListN.{length, get_or, set, replicate}
 use lib.Seq.{set-get_or, get_or-set_same, get_or-set_other}
 use Rattle.live.specs.declared.Live.{Live}
-use Rattle.live.specs.Bits.{live_of, none_live, lowest_clear, either, count_live}
+use Rattle.live.specs.Bits.{live_of, none_live, lowest_clear, either}
 use Rattle.live.proofs.Laws.{length_live}
-use Rattle.model.specs.Table.{LAST_TURN, vacant, in_place, lookup, was_closed, of, live}
-use Rattle.model.proofs.TableLaws.{same_yes, same_no}
+use Rattle.model.specs.Table.{LAST_TURN, vacant, turn, in_place, lookup, of, sum}
 use Rattle.tables.specs.declared.Handle.{Handle}
 use Rattle.tables.specs.declared.Handles.{Handles}
 use Rattle.tables.specs.declared.Permit.{Permit}
 use Rattle.tables.specs.declared.Permits.{Permits}
-use Rattle.tables.specs.declared.Number.TheVariants.{NoRoom, Given as GivenNo}
-use Rattle.tables.specs.Places.{spent_by, Used, places_of}
-use Rattle.tables.specs.Meaning.{handle_turn, marked, handles_of, HandlesSound, no_handle, permit_turn, owner_of, permits_of, Wiped, PermitsSound, no_permit, belongs, is_live}
+use Rattle.tables.specs.declared.Places.{Places}
+use Rattle.tables.specs.Places.{spent_by, Used, places_of, is_live, Marks}
+use Rattle.tables.specs.Records.{no_handle, handle_turn, marked, no_permit, permit_turn, owner_of, Wiped}
+use Rattle.tables.specs.Meaning.{handles_of, handles_sound, permits_of, permits_sound, belongs, is_own}
 use Rattle.tables.specs.Calls.{NoHandles, NoPermits, Gives, Drops, Clones, Leaves}
 use Rattle.tables.proofs.PlaceLaws.{both_bits, used_blank, places_blank}
 use Rattle.tables.proofs.WordLaws as words
+use Rattle.tables.proofs.Counts.{counted_by}
 
 -- ---- no record is live, and none was
-module _ {A : Type 0} (turn_of : A → ℕ) (limit : ℕ) (w s : Live) (e : live_of w ≡ none_live) (g : live_of s ≡ none_live) (x : A) (z : turn_of x ≡ 0) where
-  unused : Used turn_of limit (live_of w) (live_of s) (replicate limit x)
+module _ {A : Type 0} (turn_of : A → ℕ) (limit : ℕ) (p : Places) (e : live_of p.live ≡ none_live) (g : live_of p.spent ≡ none_live) (x : A) (z : turn_of x ≡ 0) where
+  pub unused : Used turn_of limit (live_of p.live) (live_of p.spent) (replicate limit x)
   unused =
-      subst (λ (l : List Bool). Used turn_of limit l (live_of s) (replicate limit x)) (sym e)
+      subst (λ (l : List Bool). Used turn_of limit l (live_of p.spent) (replicate limit x)) (sym e)
       (subst (λ (m : List Bool). Used turn_of limit none_live m (replicate limit x)) (sym g) (used_blank turn_of limit x z))
 
-pub no_handles : (w s : Live) → live_of w ≡ none_live → live_of s ≡ none_live → (x : Handle) → x ≡ no_handle → NoHandles (record { live = w; spent = s; table = replicate 16 x })
+pub no_handles : (r : Handles) (x : Handle) → r.table ≡ replicate 16 x → live_of r.places.live ≡ none_live → x ≡ no_handle → NoHandles r
 unfolding handles_of
-no_handles w s e g x z =
+no_handles r x t e z =
     record {
-      sound = record { used = unused handle_turn 16 w s e g x (ap handle_turn z) };
-      handles = ap (λ (l : List Bool). places_of handle_turn marked l (replicate 16 x)) e ∙ places_blank handle_turn marked 16 x (ap handle_turn z) (omega arith);
+      sound = handles_sound r;
+      handles =
+          ap (λ (l : List Bool). places_of handle_turn marked l r.table) e
+          ∙ (ap (places_of handle_turn marked none_live) t ∙ places_blank handle_turn marked 16 x (ap handle_turn z) (omega arith));
     }
 
 all_alike : {A : Type 0} (n i : ℕ) (x : A) → get_or (replicate n x) i x ≡ x
@@ -46,185 +50,218 @@ all_alike zero i x = refl
 all_alike (suc n) zero x = refl
 all_alike (suc n) (suc i) x = all_alike n i x
 
-pub no_permits : (w s : Live) → live_of w ≡ none_live → live_of s ≡ none_live → (x : Permit) → x ≡ no_permit → NoPermits (record { live = w; spent = s; table = replicate 64 x })
+pub none_wiped : (l : List Bool) (x : Permit) → x ≡ no_permit → Wiped l (replicate 64 x)
+none_wiped l x z i q = ap owner_of (ap (λ (d : Permit). get_or (replicate 64 x) i d) (sym z) ∙ (all_alike 64 i x ∙ z))
+
+pub no_permits : (r : Permits) (x : Permit) → r.table ≡ replicate 64 x → live_of r.places.live ≡ none_live → x ≡ no_permit → NoPermits r
 unfolding permits_of
-no_permits w s e g x z =
+no_permits r x t e z =
     record {
-      sound = record {
-        used = unused permit_turn 64 w s e g x (ap permit_turn z);
-        wiped = λ i q. ap owner_of (ap (λ (d : Permit). get_or (replicate 64 x) i d) (sym z) ∙ (all_alike 64 i x ∙ z));
-      };
-      permits = ap (λ (l : List Bool). places_of permit_turn owner_of l (replicate 64 x)) e ∙ places_blank permit_turn owner_of 64 x (ap permit_turn z) (omega arith);
+      sound = permits_sound r;
+      permits =
+          ap (λ (l : List Bool). places_of permit_turn owner_of l r.table) e
+          ∙ (ap (places_of permit_turn owner_of none_live) t ∙ places_blank permit_turn owner_of 64 x (ap permit_turn z) (omega arith));
     }
 
 -- ---- handles
-module _ (h : Handles) (snd : HandlesSound h) where
+module _ (h : Handles) where
   few : 16 ≤ 64
   few = omega arith
 
-  pub handles_counted : (n : ℕ) → n ≡ count_live (live_of h.live) → n ≡ live (handles_of h)
+  pub handles_marked : Marks (live_of h.places.live) (handles_of h)
   unfolding handles_of
-  handles_counted = words.counted handle_turn marked no_handle 16 few h.live h.spent h.table snd.used
+  handles_marked = words.marks handle_turn marked no_handle 16 few h.places.live h.places.spent h.table h.used
 
-  module _ (n : ℕ) (b : Bool) (e : b ≡ get_or (live_of h.live) (n % 64) false) where
-    pub handle_place : b ≡ true → n % 64 < 16
-    handle_place = words.live_small handle_turn marked no_handle 16 few h.live h.spent h.table snd.used (n % 64) b e
-
-    pub handle_has : b ≡ true → eqb (get_or h.table (n % 64) no_handle).turn (n / 64) ≡ is_live (lookup (handles_of h) n)
-    unfolding handles_of
-    handle_has = words.has_turn handle_turn marked no_handle 16 few h.live h.spent h.table snd.used n b e
-
-    pub handle_not : b ≡ false → false ≡ is_live (lookup (handles_of h) n)
-    unfolding handles_of
-    handle_not = words.has_not handle_turn marked no_handle 16 few h.live h.spent h.table snd.used n b e
-
-  pub handle_past : (n : ℕ) → n % 64 < 16 → ltb (n / 64) (get_or h.table (n % 64) no_handle).turn ≡ was_closed (handles_of h) n
+  pub handle_turn_below : (i : ℕ) → i < 16 → (get_or h.table i no_handle).turn ≡ turn (get_or (handles_of h) i (vacant 0))
   unfolding handles_of
-  handle_past = words.closed_below handle_turn marked no_handle 16 few h.live h.spent h.table snd.used
+  handle_turn_below = words.turn_below handle_turn marked no_handle 16 few h.places.live h.places.spent h.table h.used
 
-  pub handle_never : (n : ℕ) → 16 ≤ n % 64 → false ≡ was_closed (handles_of h) n
+  pub handle_turn_past : (i : ℕ) → 16 ≤ i → 0 ≡ turn (get_or (handles_of h) i (vacant 0))
   unfolding handles_of
-  handle_never = words.closed_past handle_turn marked no_handle 16 few h.live h.spent h.table snd.used
+  handle_turn_past = words.turn_past handle_turn marked no_handle 16 few h.places.live h.places.spent h.table h.used
 
-  module _ (i : ℕ) (e : i ≡ lowest_clear (either (live_of h.live) (live_of h.spent))) where
+  module _ (i : ℕ) (e : i ≡ lowest_clear (either (live_of h.places.live) (live_of h.places.spent))) where
     pub handle_left : i < 16 → (get_or h.table i no_handle).turn ≤ LAST_TURN
-    handle_left = words.turn_left handle_turn marked no_handle 16 few h.live h.spent h.table snd.used i e
+    handle_left = words.turn_left handle_turn marked no_handle 16 few h.places.live h.places.spent h.table h.used i e
 
     -- the record stays as it is: it holds its turn alone
-    pub handle_given : i < 16 → (n : ℕ) → n ≡ i + 64 * (get_or h.table i no_handle).turn → (l : Live) → live_of l ≡ set (live_of h.live) i true
-        → Clones h (record { number = GivenNo n; handles = record { live = l; spent = h.spent; table = h.table } })
+    module _ (b : i < 16) (n : ℕ) (q : n ≡ i + 64 * (get_or h.table i no_handle).turn) (p : Places) (g : live_of p.live ≡ set (live_of h.places.live) i true) where
+      kept : set h.table i (get_or h.table i no_handle) ≡ h.table
+      kept = set-get_or h.table i no_handle
+
+      pub handle_opened_used : p.spent ≡ h.places.spent → Used handle_turn 16 (live_of p.live) (live_of p.spent) h.table
+      handle_opened_used z =
+          subst (λ (m : Live). Used handle_turn 16 (live_of p.live) (live_of m) h.table) (sym z)
+          (subst (λ (t : List Handle). Used handle_turn 16 (live_of p.live) (live_of h.places.spent) t) kept
+          (words.opened_used handle_turn marked no_handle 16 few h.places.live h.places.spent h.table h.used i e b n q (get_or h.table i no_handle) refl p.live g))
+
+      pub handle_given : (r : Handles) → r.places ≡ p → r.table ≡ h.table → Clones h (record { number = Some n; next = r })
+      unfolding handles_of
+      handle_given r c t =
+          record {
+            sound = handles_sound r;
+            number = words.number_given handle_turn marked no_handle 16 few h.places.live h.places.spent h.table h.used i e b n q;
+            handles =
+                ap (λ (p : Places). places_of handle_turn marked (live_of p.live) r.table) c
+                ∙ (ap (places_of handle_turn marked (live_of p.live)) (t ∙ sym kept)
+                ∙ words.opened_places handle_turn marked no_handle 16 few h.places.live h.places.spent h.table h.used i e b n q (get_or h.table i no_handle) refl p.live g);
+          }
+
+    pub handle_full : 16 ≤ i → Clones h (record { number = None; next = h })
     unfolding handles_of
-    handle_given b n q l g =
-        let x = get_or h.table i no_handle in
-        let same : set h.table i x ≡ h.table = set-get_or h.table i no_handle in
+    handle_full b =
         record {
-          sound = record {
-            used =
-                subst (λ (t : List Handle). Used handle_turn 16 (live_of l) (live_of h.spent) t) same
-                (words.opened_used handle_turn marked no_handle 16 few h.live h.spent h.table snd.used i e b n q x refl l g);
-          };
-          number = words.number_given handle_turn marked no_handle 16 few h.live h.spent h.table snd.used i e b n q;
-          handles =
-              ap (places_of handle_turn marked (live_of l)) (sym same)
-              ∙ words.opened_places handle_turn marked no_handle 16 few h.live h.spent h.table snd.used i e b n q x refl l g;
+          sound = handles_sound h;
+          number = words.none_left handle_turn marked no_handle 16 few h.places.live h.places.spent h.table h.used i e b;
+          handles = refl;
         }
 
-    pub handle_full : 16 ≤ i → Clones h (record { number = NoRoom; handles = h })
-    unfolding handles_of
-    handle_full b = record { sound = snd; number = words.none_left handle_turn marked no_handle 16 few h.live h.spent h.table snd.used i e b; handles = refl }
+  module _ (n : ℕ) (is : is_live (lookup (handles_of h) n) ≡ true) (place turns : ℕ) (here : place ≡ n % 64) (on : turns ≡ n / 64) where
+    handle_next : turns + 1 ≡ n / 64 + 1
+    handle_next = omega arith
 
-  module _ (n : ℕ) (is : is_live (lookup (handles_of h) n) ≡ true) where
-    pub handle_closing : n % 64 < 16
+    pub handle_closing : place < 16
     unfolding handles_of
-    handle_closing = words.closing_small handle_turn marked no_handle 16 few h.live h.spent h.table snd.used n is
+    handle_closing = words.ending_small handle_turn marked no_handle 16 few h.places.live h.places.spent h.table h.used n is place (turns + 1) here handle_next
 
-    pub handle_closed : (l s : Live) → live_of l ≡ set (live_of h.live) (n % 64) false → live_of s ≡ spent_by (live_of h.spent) (n % 64) (n / 64 + 1)
-        → Leaves h n (record { live = l; spent = s; table = set h.table (n % 64) (record { turn = n / 64 + 1 }) })
-    unfolding handles_of
-    handle_closed l s g z =
-        record {
-          sound = record { used = words.closed_used handle_turn marked no_handle 16 few h.live h.spent h.table snd.used n is (record { turn = n / 64 + 1 }) refl l s g z };
-          handles = words.closed_places handle_turn marked no_handle 16 few h.live h.spent h.table snd.used n is (record { turn = n / 64 + 1 }) refl l s g z;
-        }
+    module _ (p : Places) (g : live_of p.live ≡ set (live_of h.places.live) place false) (z : live_of p.spent ≡ spent_by (live_of h.places.spent) place (turns + 1)) where
+      abbrev handle_left_over : Handle
+      handle_left_over = record { turn = turns + 1 }
+
+      pub handle_closed_used : Used handle_turn 16 (live_of p.live) (live_of p.spent) (set h.table place handle_left_over)
+      unfolding handles_of
+      handle_closed_used = words.ended_used handle_turn marked no_handle 16 few h.places.live h.places.spent h.table h.used n is place (turns + 1) here handle_next handle_left_over refl p g z
+
+      pub handle_closed : (r : Handles) → r.places ≡ p → r.table ≡ set h.table place handle_left_over → Leaves h n r
+      unfolding handles_of
+      handle_closed r c t =
+          record {
+            sound = handles_sound r;
+            handles =
+                ap (λ (p : Places). places_of handle_turn marked (live_of p.live) r.table) c
+                ∙ (ap (places_of handle_turn marked (live_of p.live)) t
+                ∙ words.ended_places handle_turn marked no_handle 16 few h.places.live h.places.spent h.table h.used n is place (turns + 1) here handle_next handle_left_over refl p g z);
+          }
 
 -- ---- permits
 -- places that are not live stay wiped where a record comes, and where one goes that leaves no owner
-wiped_open : (l : List Bool) (t : List Permit) (i : ℕ) (x : Permit) → i < length l → Wiped l t → Wiped (set l i true) (set t i x)
-wiped_open l t i x h w k q =
-    let other : k ≡ i → ⊥ = λ z. both_bits (get_or (set l i true) k false) (ap (λ (j : ℕ). get_or (set l i true) j false) z ∙ get_or-set_same l i true false h) q in
-    ap owner_of (get_or-set_other t i k x no_permit other) ∙ w k (sym (get_or-set_other l i k true false other) ∙ q)
+wiped_open : (l m : List Bool) (t : List Permit) (i : ℕ) (x : Permit) → m ≡ set l i true → i < length l → Wiped l t → Wiped m (set t i x)
+wiped_open l m t i x e h w k q =
+    let clear : get_or (set l i true) k false ≡ false = ap (λ (b : List Bool). get_or b k false) (sym e) ∙ q in
+    let other : k ≡ i → ⊥ = λ z. both_bits (get_or (set l i true) k false) (ap (λ (j : ℕ). get_or (set l i true) j false) z ∙ get_or-set_same l i true false h) clear in
+    ap owner_of (get_or-set_other t i k x no_permit other) ∙ w k (sym (get_or-set_other l i k true false other) ∙ clear)
 
-wiped_close : (l : List Bool) (t : List Permit) (i : ℕ) (x : Permit) → i < length t → x.owner ≡ 0 → Wiped l t → Wiped (set l i false) (set t i x)
-wiped_close l t i x h e w k q = go (ℕ_discrete k i)
+wiped_close : (l m : List Bool) (t : List Permit) (i : ℕ) (x : Permit) → m ≡ set l i false → i < length t → x.owner ≡ 0 → Wiped l t → Wiped m (set t i x)
+wiped_close l m t i x e h z w k q = go (ℕ_discrete k i)
   where
     go : Dec (k ≡ i) → (get_or (set t i x) k no_permit).owner ≡ 0
-    go (yes z) = ap owner_of (ap (λ (j : ℕ). get_or (set t i x) j no_permit) z ∙ get_or-set_same t i x no_permit h) ∙ e
-    go (no d) = ap owner_of (get_or-set_other t i k x no_permit d) ∙ w k (sym (get_or-set_other l i k false false d) ∙ q)
+    go (yes y) = ap owner_of (ap (λ (j : ℕ). get_or (set t i x) j no_permit) y ∙ get_or-set_same t i x no_permit h) ∙ z
+    go (no d) =
+        ap owner_of (get_or-set_other t i k x no_permit d)
+        ∙ w k (sym (get_or-set_other l i k false false d) ∙ (ap (λ (b : List Bool). get_or b k false) (sym e) ∙ q))
 
-module _ (p : Permits) (snd : PermitsSound p) where
+module _ (h : Permits) where
   all : 64 ≤ 64
   all = omega arith
 
-  pub wide_permits : length (permits_of p) ≡ 64
+  pub wide_permits : length (permits_of h) ≡ 64
   unfolding permits_of
-  wide_permits = words.wide permit_turn owner_of no_permit 64 all p.live p.spent p.table snd.used
+  wide_permits = words.wide permit_turn owner_of no_permit 64 all h.places.live h.places.spent h.table h.used
 
-  pub permits_counted : (n : ℕ) → n ≡ count_live (live_of p.live) → n ≡ live (permits_of p)
+  pub permits_marked : Marks (live_of h.places.live) (permits_of h)
   unfolding permits_of
-  permits_counted = words.counted permit_turn owner_of no_permit 64 all p.live p.spent p.table snd.used
+  permits_marked = words.marks permit_turn owner_of no_permit 64 all h.places.live h.places.spent h.table h.used
 
-  module _ (n : ℕ) (b : Bool) (e : b ≡ get_or (live_of p.live) (n % 64) false) where
-    pub permit_has : b ≡ true → eqb (get_or p.table (n % 64) no_permit).turn (n / 64) ≡ is_live (lookup (permits_of p) n)
-    unfolding permits_of
-    permit_has = words.has_turn permit_turn owner_of no_permit 64 all p.live p.spent p.table snd.used n b e
-
-    pub permit_not : b ≡ false → false ≡ is_live (lookup (permits_of p) n)
-    unfolding permits_of
-    permit_not = words.has_not permit_turn owner_of no_permit 64 all p.live p.spent p.table snd.used n b e
-
-  pub permit_past : (n : ℕ) → ltb (n / 64) (get_or p.table (n % 64) no_permit).turn ≡ was_closed (permits_of p) n
+  pub permit_turn_below : (i : ℕ) → i < 64 → (get_or h.table i no_permit).turn ≡ turn (get_or (permits_of h) i (vacant 0))
   unfolding permits_of
-  permit_past n = words.closed_below permit_turn owner_of no_permit 64 all p.live p.spent p.table snd.used n (omega arith)
+  permit_turn_below = words.turn_below permit_turn owner_of no_permit 64 all h.places.live h.places.spent h.table h.used
 
-  module _ (i : ℕ) (e : i ≡ lowest_clear (either (live_of p.live) (live_of p.spent))) where
-    pub permit_left : i < 64 → (get_or p.table i no_permit).turn ≤ LAST_TURN
-    permit_left = words.turn_left permit_turn owner_of no_permit 64 all p.live p.spent p.table snd.used i e
+  pub permit_turn_past : (i : ℕ) → 64 ≤ i → 0 ≡ turn (get_or (permits_of h) i (vacant 0))
+  unfolding permits_of
+  permit_turn_past = words.turn_past permit_turn owner_of no_permit 64 all h.places.live h.places.spent h.table h.used
 
-    pub permit_given : (s : ℕ) → i < 64 → (n : ℕ) → n ≡ i + 64 * (get_or p.table i no_permit).turn → (l : Live) → live_of l ≡ set (live_of p.live) i true
-        → Gives p s (record { number = GivenNo n; permits = record { live = l; spent = p.spent; table = set p.table i (record { owner = s; turn = (get_or p.table i no_permit).turn }) } })
+  module _ (i : ℕ) (e : i ≡ lowest_clear (either (live_of h.places.live) (live_of h.places.spent))) where
+    pub permit_left : i < 64 → (get_or h.table i no_permit).turn ≤ LAST_TURN
+    permit_left = words.turn_left permit_turn owner_of no_permit 64 all h.places.live h.places.spent h.table h.used i e
+
+    module _ (b : i < 64) (s n : ℕ) (q : n ≡ i + 64 * (get_or h.table i no_permit).turn) (p : Places) (g : live_of p.live ≡ set (live_of h.places.live) i true) where
+      abbrev new : Permit
+      new = record { owner = s; turn = (get_or h.table i no_permit).turn }
+
+      pub permit_opened_used : p.spent ≡ h.places.spent → Used permit_turn 64 (live_of p.live) (live_of p.spent) (set h.table i new)
+      permit_opened_used z =
+          subst (λ (m : Live). Used permit_turn 64 (live_of p.live) (live_of m) (set h.table i new)) (sym z)
+          (words.opened_used permit_turn owner_of no_permit 64 all h.places.live h.places.spent h.table h.used i e b n q new refl p.live g)
+
+      pub permit_opened_wiped : Wiped (live_of p.live) (set h.table i new)
+      permit_opened_wiped = wiped_open (live_of h.places.live) (live_of p.live) h.table i new g (omega (arith, length_live h.places.live)) h.wiped
+
+      pub permit_given : (r : Permits) → r.places ≡ p → r.table ≡ set h.table i new → Gives h s (record { number = Some n; next = r })
+      unfolding permits_of
+      permit_given r c t =
+          record {
+            sound = permits_sound r;
+            number = words.number_given permit_turn owner_of no_permit 64 all h.places.live h.places.spent h.table h.used i e b n q;
+            permits =
+                ap (λ (p : Places). places_of permit_turn owner_of (live_of p.live) r.table) c
+                ∙ (ap (places_of permit_turn owner_of (live_of p.live)) t
+                ∙ words.opened_places permit_turn owner_of no_permit 64 all h.places.live h.places.spent h.table h.used i e b n q new refl p.live g);
+          }
+
+    pub permit_full : (s : ℕ) → 64 ≤ i → Gives h s (record { number = None; next = h })
     unfolding permits_of
-    permit_given s b n q l g =
-        let x : Permit = record { owner = s; turn = (get_or p.table i no_permit).turn } in
+    permit_full s b =
         record {
-          sound = record {
-            used = words.opened_used permit_turn owner_of no_permit 64 all p.live p.spent p.table snd.used i e b n q x refl l g;
-            wiped = subst (λ (m : List Bool). Wiped m (set p.table i x)) (sym g) (wiped_open (live_of p.live) p.table i x (omega (arith, length_live p.live)) snd.wiped);
-          };
-          number = words.number_given permit_turn owner_of no_permit 64 all p.live p.spent p.table snd.used i e b n q;
-          permits = words.opened_places permit_turn owner_of no_permit 64 all p.live p.spent p.table snd.used i e b n q x refl l g;
+          sound = permits_sound h;
+          number = words.none_left permit_turn owner_of no_permit 64 all h.places.live h.places.spent h.table h.used i e b;
+          permits = refl;
         }
 
-    pub permit_full : (s : ℕ) → 64 ≤ i → Gives p s (record { number = NoRoom; permits = p })
-    unfolding permits_of
-    permit_full s b = record { sound = snd; number = words.none_left permit_turn owner_of no_permit 64 all p.live p.spent p.table snd.used i e b; permits = refl }
+  module _ (n : ℕ) (is : is_live (lookup (permits_of h) n) ≡ true) (place turns : ℕ) (here : place ≡ n % 64) (on : turns ≡ n / 64) (p : Places) (g : live_of p.live ≡ set (live_of h.places.live) place false) (z : live_of p.spent ≡ spent_by (live_of h.places.spent) place (turns + 1)) where
+    next : turns + 1 ≡ n / 64 + 1
+    next = omega arith
 
-  module _ (n : ℕ) (is : is_live (lookup (permits_of p) n) ≡ true) where
-    pub permit_closed : (l s : Live) → live_of l ≡ set (live_of p.live) (n % 64) false → live_of s ≡ spent_by (live_of p.spent) (n % 64) (n / 64 + 1)
-        → Drops p n (record { live = l; spent = s; table = set p.table (n % 64) (record { owner = 0; turn = n / 64 + 1 }) })
+    abbrev left : Permit
+    left = record { owner = 0; turn = turns + 1 }
+
+    pub permit_closed_used : Used permit_turn 64 (live_of p.live) (live_of p.spent) (set h.table place left)
     unfolding permits_of
-    permit_closed l s g z =
-        let x : Permit = record { owner = 0; turn = n / 64 + 1 } in
+    permit_closed_used = words.ended_used permit_turn owner_of no_permit 64 all h.places.live h.places.spent h.table h.used n is place (turns + 1) here next left refl p g z
+
+    pub permit_closed_wiped : Wiped (live_of p.live) (set h.table place left)
+    permit_closed_wiped = wiped_close (live_of h.places.live) (live_of p.live) h.table place left g (omega (arith, h.used.sized)) refl h.wiped
+
+    pub permit_closed : (r : Permits) → r.places ≡ p → r.table ≡ set h.table place left → Drops h n r
+    unfolding permits_of
+    permit_closed r c t =
         record {
-          sound = record {
-            used = words.closed_used permit_turn owner_of no_permit 64 all p.live p.spent p.table snd.used n is x refl l s g z;
-            wiped = subst (λ (m : List Bool). Wiped m (set p.table (n % 64) x)) (sym g) (wiped_close (live_of p.live) p.table (n % 64) x (omega (arith, snd.used.sized)) refl snd.wiped);
-          };
-          permits = words.closed_places permit_turn owner_of no_permit 64 all p.live p.spent p.table snd.used n is x refl l s g z;
+          sound = permits_sound r;
+          permits =
+              ap (λ (p : Places). places_of permit_turn owner_of (live_of p.live) r.table) c
+              ∙ (ap (places_of permit_turn owner_of (live_of p.live)) t
+              ∙ words.ended_places permit_turn owner_of no_permit 64 all h.places.live h.places.spent h.table h.used n is place (turns + 1) here next left refl p g z);
         }
 
   -- ---- owned
-  module _ (i h : ℕ) (b : Bool) (e : b ≡ get_or (live_of p.live) i false) where
-    pub permit_place : b ≡ true → i < 64
-    permit_place = words.live_small permit_turn owner_of no_permit 64 all p.live p.spent p.table snd.used i b e
-
-    permit_row : b ≡ true → in_place (get_or (permits_of p) i (vacant 0)) ≡ some (get_or p.table i no_permit).owner
+  module _ (i s : ℕ) (b : Bool) (e : b ≡ get_or (live_of h.places.live) i false) where
+    pub own_live : b ≡ true → eqb s (get_or h.table i no_permit).owner ≡ is_own s (in_place (get_or (permits_of h) i (vacant 0)))
     unfolding permits_of
-    permit_row = words.live_in permit_turn owner_of no_permit 64 all p.live p.spent p.table snd.used i b e
+    own_live t = sym (ap (is_own s) (words.live_in permit_turn owner_of no_permit 64 all h.places.live h.places.spent h.table h.used i b e t))
 
-    module _ (t : b ≡ true) where
-      pub owned_yes : h ≡ (get_or p.table i no_permit).owner → 1 ≡ of (belongs h) (in_place (get_or (permits_of p) i (vacant 0)))
-      owned_yes g = sym (ap (of (belongs h)) (permit_row t) ∙ (ap (belongs h) (sym g) ∙ same_yes h))
-
-      pub owned_no : (h ≡ (get_or p.table i no_permit).owner → ⊥) → 0 ≡ of (belongs h) (in_place (get_or (permits_of p) i (vacant 0)))
-      owned_no g = sym (ap (of (belongs h)) (permit_row t) ∙ same_no h (get_or p.table i no_permit).owner g)
-
-    pub owned_none : b ≡ false → 0 ≡ of (belongs h) (in_place (get_or (permits_of p) i (vacant 0)))
+    pub own_vacant : b ≡ false → b ≡ is_own s (in_place (get_or (permits_of h) i (vacant 0)))
     unfolding permits_of
-    owned_none t = sym (ap (of (belongs h)) (words.vacant_in permit_turn owner_of no_permit 64 all p.live p.spent p.table snd.used i b e t))
+    own_vacant t = t ∙ sym (ap (is_own s) (words.vacant_in permit_turn owner_of no_permit 64 all h.places.live h.places.spent h.table h.used i b e t))
 
-pub belongs_one : (h a : ℕ) → belongs h a ≤ 1
-belongs_one h a = by (eqb h a)
-  where
-    by : (b : Bool) → (if b then 1 else 0) ≤ 1
-    by true = omega arith
-    by false = omega arith
+  -- a place counts as one if it is the sender's own
+  pub own_counted : (s : ℕ) → count_by (λ i. is_own s (in_place (get_or (permits_of h) i (vacant 0)))) (range_with_len 0 64) ≡ sum (belongs s) (permits_of h)
+  own_counted s =
+      ap (λ (n : ℕ). count_by (λ i. is_own s (in_place (get_or (permits_of h) i (vacant 0)))) (range_with_len 0 n)) (sym wide_permits)
+      ∙ counted_by (belongs s) (permits_of h) 0 (λ i. is_own s (in_place (get_or (permits_of h) i (vacant 0)))) (λ i. ap (λ (k : ℕ). cond (is_own s (in_place (get_or (permits_of h) k (vacant 0)))) 1 0) (zero-add i) ∙ by (in_place (get_or (permits_of h) i (vacant 0))))
+    where
+      one : (b : Bool) → ◌≡◌ {A = ℕ} (cond b 1 0) (if b then 1 else 0)
+      one true = refl
+      one false = refl
+
+      by : (o : Option ℕ) → cond (is_own s o) 1 0 ≡ of (belongs s) o
+      by None = refl
+      by (Some owner) = one (eqb s owner)

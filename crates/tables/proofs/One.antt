@@ -2,13 +2,12 @@
 -- functions answer by an equation.) Assumes nothing.
 use Prim.Native.Nat.{ℕ}
 use mathlib.Core.Path.{◌≡◌, sym, ap, ◌∙◌}
-use mathlib.Core.Option.{Option}
+use Rattle.std.specs.Prelude.{Option}
 use Rattle.model.specs.Table.{Table}
 use Rattle.tables.specs.declared.Handles.{Handles}
 use Rattle.tables.specs.declared.Permits.{Permits}
-use Rattle.tables.specs.declared.Given.{Given}
-use Rattle.tables.specs.declared.Cloned.{Cloned}
-use Rattle.tables.specs.Meaning.{handles_of, permits_of, numbered}
+use Rattle.tables.specs.declared.Opened.{Opened}
+use Rattle.tables.specs.Meaning.{handles_of, permits_of}
 use Rattle.tables.specs.Calls.{put_if, NoHandles, Clones, Leaves, NoPermits, Gives, Drops}
 
 -- a number and a table by it, given twice
@@ -22,8 +21,8 @@ both {A} {n} {m} {l} {t} {u} before x p q a b =
 pub fresh_one : (r t : Handles) → NoHandles r → NoHandles t → handles_of r ≡ handles_of t
 fresh_one r t p q = p.handles ∙ sym q.handles
 
-pub open_one : (h : Handles) (r t : Cloned) → Clones h r → Clones h t
-    → (numbered r.number ≡ numbered t.number) × (handles_of r.handles ≡ handles_of t.handles)
+pub open_one : (h : Handles) (r t : Opened Handles) → Clones h r → Clones h t
+    → (r.number ≡ t.number) × (handles_of r.next ≡ handles_of t.next)
 open_one h r t p q = both (handles_of h) tt p.number q.number p.handles q.handles
 
 pub close_one : (h : Handles) (n : ℕ) (r t : Handles) → Leaves h n r → Leaves h n t → handles_of r ≡ handles_of t
@@ -33,8 +32,8 @@ close_one h n r t p q = p.handles ∙ sym q.handles
 pub permits_fresh_one : (r t : Permits) → NoPermits r → NoPermits t → permits_of r ≡ permits_of t
 permits_fresh_one r t p q = p.permits ∙ sym q.permits
 
-pub permits_open_one : (h : Permits) (s : ℕ) (r t : Given) → Gives h s r → Gives h s t
-    → (numbered r.number ≡ numbered t.number) × (permits_of r.permits ≡ permits_of t.permits)
+pub permits_open_one : (h : Permits) (s : ℕ) (r t : Opened Permits) → Gives h s r → Gives h s t
+    → (r.number ≡ t.number) × (permits_of r.next ≡ permits_of t.next)
 permits_open_one h s r t p q = both (permits_of h) s p.number q.number p.permits q.permits
 
 pub permits_close_one : (h : Permits) (n : ℕ) (r t : Permits) → Drops h n r → Drops h n t → permits_of r ≡ permits_of t

@@ -4,7 +4,7 @@ use Rattle.std.specs.Prelude.{if◌then◌else◌}
 use mathlib.Core.Path.{◌≡◌, refl, sym, ap, ap₂, ◌∙◌, subst}
 use mathlib.Core.Bool.{Bool, true, false}
 use mathlib.Core.List.{List, [], ◌∷◌, map}
-use mathlib.Core.Option.{Option, none, some}
+use Rattle.std.specs.Prelude.{Option, None, Some}
 use Prim.Native.Nat.{ℕ, zero, suc, ◌+◌, ◌*◌, ◌/◌, ◌%◌, ◌<◌, ◌≤◌}
 use native.Mathlib.Omega.{arith}
 use native.Mathlib.Decide.{ℕ_discrete}
@@ -41,16 +41,16 @@ module _ (spent : List Bool) (i k : ℕ) where
   spent_last r h e = e ∙ sym (ap (λ (t : Bool). if t then spent else set spent i true) (lt-leb k LAST_TURN h))
 
 -- the next place's number
-next_place : (o : Option ℕ) (j k : ℕ) → o ≡ some (j + k) → one_more o ≡ some (suc j + k)
-next_place o j k e = let z : suc (j + k) ≡ suc j + k = omega arith in ap one_more e ∙ ap some z
+next_place : (o : Option ℕ) (j k : ℕ) → o ≡ Some (j + k) → one_more o ≡ Some (suc j + k)
+next_place o j k e = let z : suc (j + k) ≡ suc j + k = omega arith in ap one_more e ∙ ap Some z
 
 -- A VACANT PLACE at the head of a table is given, unless it is used up
 module _ {R : Type 0} (k : ℕ) (t : Table R) where
-  vacant_given : k ≤ LAST_TURN → lowest (vacant k ∷ t) ≡ some (64 * k)
-  vacant_given h = ap (λ (b : Bool). if b then some (64 * k) else one_more (lowest t)) (le-leb k LAST_TURN h)
+  vacant_given : k ≤ LAST_TURN → lowest (vacant k ∷ t) ≡ Some (64 * k)
+  vacant_given h = ap (λ (b : Bool). if b then Some (64 * k) else one_more (lowest t)) (le-leb k LAST_TURN h)
 
   vacant_spent : k ≡ suc LAST_TURN → lowest (vacant k ∷ t) ≡ one_more (lowest t)
-  vacant_spent e = ap (λ (b : Bool). if b then some (64 * k) else one_more (lowest t)) (lt-leb k LAST_TURN (omega arith))
+  vacant_spent e = ap (λ (b : Bool). if b then Some (64 * k) else one_more (lowest t)) (lt-leb k LAST_TURN (omega arith))
 
 -- THE TURNS of the places
 module _ {A : Type 0} (turn_of : A → ℕ) where
@@ -225,16 +225,16 @@ module _ {A R : Type 0} (turn_of : A → ℕ) (record_of : A → R) where
   place_vacant (b ∷ l) (x ∷ xs) (suc i) e = place_vacant l xs i e
 
   module _ (l : List Bool) (xs : List A) (n : ℕ) where
-    pub lookup_vacant : get_or l (n % 64) false ≡ false → lookup (places_of turn_of record_of l xs) n ≡ none
+    pub lookup_vacant : get_or l (n % 64) false ≡ false → lookup (places_of turn_of record_of l xs) n ≡ None
     lookup_vacant e = ap (at_turn (n / 64)) (place_vacant l xs (n % 64) e)
 
     module _ (d : A) (h : n % 64 < length xs) (e : get_or l (n % 64) false ≡ true) where
-      pub lookup_here : n / 64 ≡ turn_of (get_or xs (n % 64) d) → lookup (places_of turn_of record_of l xs) n ≡ some (record_of (get_or xs (n % 64) d))
+      pub lookup_here : n / 64 ≡ turn_of (get_or xs (n % 64) d) → lookup (places_of turn_of record_of l xs) n ≡ Some (record_of (get_or xs (n % 64) d))
       lookup_here k =
           ap (at_turn (n / 64)) (place_live l xs (n % 64) d h e)
           ∙ on_turn_lem (n / 64) (holds (turn_of (get_or xs (n % 64) d)) (record_of (get_or xs (n % 64) d))) k
 
-      pub lookup_stale : (n / 64 ≡ turn_of (get_or xs (n % 64) d) → ⊥) → lookup (places_of turn_of record_of l xs) n ≡ none
+      pub lookup_stale : (n / 64 ≡ turn_of (get_or xs (n % 64) d) → ⊥) → lookup (places_of turn_of record_of l xs) n ≡ None
       lookup_stale k =
           ap (at_turn (n / 64)) (place_live l xs (n % 64) d h e)
           ∙ off_turn (n / 64) (holds (turn_of (get_or xs (n % 64) d)) (record_of (get_or xs (n % 64) d))) k
@@ -246,10 +246,10 @@ module _ {A R : Type 0} (turn_of : A → ℕ) (record_of : A → R) where
     pub is : record_of (get_or xs (n % 64) d) ≡ a
 
   pub stands : (limit : ℕ) (l : List Bool) (xs : List A) (n : ℕ) (d : A) (a : R) → length xs ≡ limit → Within limit l
-      → lookup (places_of turn_of record_of l xs) n ≡ some a → Stands l xs n d a
+      → lookup (places_of turn_of record_of l xs) n ≡ Some a → Stands l xs n d a
   stands limit l xs n d a sized w e = go (get_or l (n % 64) false) refl
     where
-      none_some : {P : Type 0} → lookup (places_of turn_of record_of l xs) n ≡ none → P
+      none_some : {P : Type 0} → lookup (places_of turn_of record_of l xs) n ≡ None → P
       none_some q = let z : ◌≡◌ {A = ℕ} 0 1 = cc in absurd (omega arith)
 
       go : (b : Bool) → get_or l (n % 64) false ≡ b → Stands l xs n d a
@@ -310,7 +310,7 @@ module _ {A R : Type 0} (turn_of : A → ℕ) (record_of : A → R) where
       }
 
   lowest_go : (d : A) (limit : ℕ) (l m : List Bool) (xs : List A) → Used turn_of limit l m xs → limit ≤ length l → limit ≤ length m → lowest_clear (either l m) < limit
-      → lowest (places_of turn_of record_of l xs) ≡ some (lowest_clear (either l m) + 64 * turn_of (get_or xs (lowest_clear (either l m)) d))
+      → lowest (places_of turn_of record_of l xs) ≡ Some (lowest_clear (either l m) + 64 * turn_of (get_or xs (lowest_clear (either l m)) d))
   unfolding places_of lowest_clear either
   lowest_go d zero l m xs u p q h = absurd (omega arith)
   lowest_go d (suc limit) [] m xs u p q h = absurd (omega arith)
@@ -325,10 +325,10 @@ module _ {A R : Type 0} (turn_of : A → ℕ) (record_of : A → R) where
       (lowest_go d limit l m xs (used_tail limit false true l m x xs u) (omega arith) (omega arith) (omega arith))
   lowest_go d (suc limit) (false ∷ l) (false ∷ m) (x ∷ xs) u p q h =
       let first : 64 * turn_of x ≡ 0 + 64 * turn_of x = omega arith in
-      vacant_given (turn_of x) (places_of turn_of record_of l xs) (u.left 0 refl) ∙ ap some first
+      vacant_given (turn_of x) (places_of turn_of record_of l xs) (u.left 0 refl) ∙ ap Some first
 
   none_go : (limit : ℕ) (l m : List Bool) (xs : List A) → Used turn_of limit l m xs → limit ≤ length m → limit ≤ lowest_clear (either l m)
-      → lowest (places_of turn_of record_of l xs) ≡ none
+      → lowest (places_of turn_of record_of l xs) ≡ None
   unfolding places_of lowest_clear either
   none_go limit [] m xs u q h = refl
   none_go limit (b ∷ l) m [] u q h = refl
@@ -343,10 +343,10 @@ module _ {A R : Type 0} (turn_of : A → ℕ) (record_of : A → R) where
 
   module _ (limit : ℕ) (l m : List Bool) (xs : List A) (u : Used turn_of limit l m xs) (p : limit ≤ length l) (q : limit ≤ length m) where
     module _ (i : ℕ) (e : i ≡ lowest_clear (either l m)) where
-      pub lowest_given : (d : A) → i < limit → lowest (places_of turn_of record_of l xs) ≡ some (i + 64 * turn_of (get_or xs i d))
-      lowest_given d h = lowest_go d limit l m xs u p q (omega arith) ∙ ap (λ (j : ℕ). some (j + 64 * turn_of (get_or xs j d))) (sym e)
+      pub lowest_given : (d : A) → i < limit → lowest (places_of turn_of record_of l xs) ≡ Some (i + 64 * turn_of (get_or xs i d))
+      lowest_given d h = lowest_go d limit l m xs u p q (omega arith) ∙ ap (λ (j : ℕ). Some (j + 64 * turn_of (get_or xs j d))) (sym e)
 
-      pub lowest_none : limit ≤ i → lowest (places_of turn_of record_of l xs) ≡ none
+      pub lowest_none : limit ≤ i → lowest (places_of turn_of record_of l xs) ≡ None
       lowest_none h = none_go limit l m xs u q (omega arith)
 
       -- the place given is not used up

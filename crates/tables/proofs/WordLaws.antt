@@ -1,26 +1,23 @@
 -- WHAT EACH WAY THROUGH A TABLE'S METHODS SHOWS, from the two words and the array: one law for every kind of record. `d` is what a read past the
 -- end of the array stands for. Assumes nothing.
-use mathlib.Core.Path.{◌≡◌, refl, sym, ap, ◌∙◌, subst}
+use mathlib.Core.Path.{◌≡◌, refl, sym, ap, ap₂, ◌∙◌, subst}
 use mathlib.Core.Bool.{Bool, true, false}
 use mathlib.Core.List.{List}
-use mathlib.Core.Option.{Option, none, some}
+use Rattle.std.specs.Prelude.{Option, None, Some}
 use Prim.Native.Nat.{ℕ, suc, ◌+◌, ◌*◌, ◌/◌, ◌%◌, ◌<◌, ◌≤◌}
 use native.Mathlib.Omega.{arith}
-use native.Mathlib.Decide.{ℕ_discrete}
-use borrow.Author.Tests.{eq-eqb, ne_eqb, le-ltb}
-use lib.Dec.{eqb, ltb}
 use lib.ListN.{length, get_or, set, get_or-eq_default}
 use Rattle.live.specs.declared.Live.{Live}
 use Rattle.live.specs.Bits.{live_of, lowest_clear, either, count_live}
 use Rattle.live.proofs.Laws.{length_live, live_below}
-use Rattle.model.specs.Table.{LAST_TURN, vacant, turn, in_place, lookup, was_closed, put, clear, lowest, live, size}
-use Rattle.tables.specs.Places.{spent_by, turn_at, Used, places_of}
-use Rattle.tables.specs.Meaning.{is_live}
-use Rattle.tables.proofs.PlaceLaws.{number_place, number_turn, turn_at_lem, used_open, used_close, size_places, turn_there, place_live, place_vacant, lookup_vacant, lookup_here, lookup_stale, Stands, stands, places_put, places_clear, lowest_given, lowest_none, given_unspent, live_places}
+use Rattle.model.specs.Table.{LAST_TURN, vacant, turn, in_place, lookup, put, clear, lowest, live, size}
+use Rattle.tables.specs.Places.{spent_by, turn_at, Used, places_of, is_live, Marks}
+use Rattle.tables.specs.declared.Places.{Places}
+use Rattle.tables.proofs.PlaceLaws.{number_place, number_turn, turn_at_lem, used_open, used_close, size_places, turn_there, place_live, place_vacant, Stands, stands, places_put, places_clear, lowest_given, lowest_none, given_unspent, live_places}
 
-live_some : {R : Type 0} (o : Option R) → is_live o ≡ true → (a : R) × (o ≡ some a)
-live_some none e = let z : ◌≡◌ {A = ℕ} 0 1 = cc in absurd (omega arith)
-live_some (some a) e = (a, refl)
+live_some : {R : Type 0} (o : Option R) → is_live o ≡ true → (a : R) × (o ≡ Some a)
+live_some None e = let z : ◌≡◌ {A = ℕ} 0 1 = cc in absurd (omega arith)
+live_some (Some a) e = (a, refl)
 
 module _ {A R : Type 0} (turn_of : A → ℕ) (record_of : A → R) (d : A) (limit : ℕ) (few : limit ≤ 64) (w s : Live) (xs : List A) (u : Used turn_of limit (live_of w) (live_of s) xs) where
   long : limit ≤ length (live_of w)
@@ -40,28 +37,19 @@ module _ {A R : Type 0} (turn_of : A → ℕ) (record_of : A → R) (d : A) (lim
     pub live_small : b ≡ true → i < limit
     live_small t = live_below limit (live_of w) i u.within (sym e ∙ t)
 
-    pub live_in : b ≡ true → in_place (get_or (places_of turn_of record_of (live_of w) xs) i (vacant 0)) ≡ some (record_of (get_or xs i d))
+    pub live_in : b ≡ true → in_place (get_or (places_of turn_of record_of (live_of w) xs) i (vacant 0)) ≡ Some (record_of (get_or xs i d))
     live_in t = ap in_place (place_live turn_of record_of (live_of w) xs i d (omega (arith, live_small t, u.sized)) (sym e ∙ t))
 
-    pub vacant_in : b ≡ false → in_place (get_or (places_of turn_of record_of (live_of w) xs) i (vacant 0)) ≡ none
+    pub vacant_in : b ≡ false → in_place (get_or (places_of turn_of record_of (live_of w) xs) i (vacant 0)) ≡ None
     vacant_in t = ap in_place (place_vacant turn_of record_of (live_of w) xs i (sym e ∙ t))
 
-  -- is a number live
-  module _ (n : ℕ) (b : Bool) (e : b ≡ get_or (live_of w) (n % 64) false) where
-    pub has_turn : b ≡ true → eqb (turn_of (get_or xs (n % 64) d)) (n / 64) ≡ is_live (lookup (places_of turn_of record_of (live_of w) xs) n)
-    has_turn t = go (ℕ_discrete (n / 64) (turn_of (get_or xs (n % 64) d)))
-      where
-        h : n % 64 < length xs
-        h = omega (arith, live_small (n % 64) b e t, u.sized)
-
-        go : Dec (n / 64 ≡ turn_of (get_or xs (n % 64) d)) → eqb (turn_of (get_or xs (n % 64) d)) (n / 64) ≡ is_live (lookup (places_of turn_of record_of (live_of w) xs) n)
-        go (yes k) =
-            eq-eqb (turn_of (get_or xs (n % 64) d)) (n / 64) (sym k) ∙ sym (ap is_live (lookup_here turn_of record_of (live_of w) xs n d h (sym e ∙ t) k))
-        go (no k) =
-            ne_eqb (turn_of (get_or xs (n % 64) d)) (n / 64) (λ z. k (sym z)) ∙ sym (ap is_live (lookup_stale turn_of record_of (live_of w) xs n d h (sym e ∙ t) k))
-
-    pub has_not : b ≡ false → false ≡ is_live (lookup (places_of turn_of record_of (live_of w) xs) n)
-    has_not t = sym (ap is_live (lookup_vacant turn_of record_of (live_of w) xs n (sym e ∙ t)))
+  -- the word tells the live places
+  pub marks : Marks (live_of w) (places_of turn_of record_of (live_of w) xs)
+  marks = record { each = λ i. at i (get_or (live_of w) i false) refl; count = counted (count_live (live_of w)) refl }
+    where
+      at : (i : ℕ) (b : Bool) → get_or (live_of w) i false ≡ b → get_or (live_of w) i false ≡ is_live (in_place (get_or (places_of turn_of record_of (live_of w) xs) i (vacant 0)))
+      at i true e = e ∙ sym (ap is_live (live_in i true (sym e) refl))
+      at i false e = e ∙ sym (ap is_live (vacant_in i false (sym e) refl))
 
   -- the turn of a place, live or not: below the limit, and past it
   module _ (i : ℕ) where
@@ -71,17 +59,9 @@ module _ {A R : Type 0} (turn_of : A → ℕ) (record_of : A → R) (d : A) (lim
     pub turn_past : limit ≤ i → 0 ≡ turn (get_or (places_of turn_of record_of (live_of w) xs) i (vacant 0))
     turn_past h = sym (ap turn (get_or-eq_default (places_of turn_of record_of (live_of w) xs) (vacant 0) {n = i} (omega (arith, wide))))
 
-  -- was a number given, and is it closed
-  module _ (n : ℕ) where
-    pub closed_below : n % 64 < limit → ltb (n / 64) (turn_of (get_or xs (n % 64) d)) ≡ was_closed (places_of turn_of record_of (live_of w) xs) n
-    closed_below h = ap (ltb (n / 64)) (turn_below (n % 64) h)
-
-    pub closed_past : limit ≤ n % 64 → false ≡ was_closed (places_of turn_of record_of (live_of w) xs) n
-    closed_past h = sym (le-ltb (n / 64) 0 (omega arith)) ∙ ap (ltb (n / 64)) (turn_past (n % 64) h)
-
   -- a record opens at the place that the two words give
   module _ (i : ℕ) (e : i ≡ lowest_clear (either (live_of w) (live_of s))) where
-    pub none_left : limit ≤ i → none ≡ lowest (places_of turn_of record_of (live_of w) xs)
+    pub none_left : limit ≤ i → None ≡ lowest (places_of turn_of record_of (live_of w) xs)
     none_left h = sym (lowest_none turn_of record_of limit (live_of w) (live_of s) xs u long beside i e h)
 
     module _ (h : i < limit) where
@@ -95,8 +75,8 @@ module _ {A R : Type 0} (turn_of : A → ℕ) (record_of : A → R) (d : A) (lim
       turn_left = omega (arith, u.left i free, turn_here)
 
       module _ (n : ℕ) (q : n ≡ i + 64 * turn_of (get_or xs i d)) where
-        pub number_given : some n ≡ lowest (places_of turn_of record_of (live_of w) xs)
-        number_given = sym (lowest_given turn_of record_of limit (live_of w) (live_of s) xs u long beside i e d h ∙ ap some (sym q))
+        pub number_given : Some n ≡ lowest (places_of turn_of record_of (live_of w) xs)
+        number_given = sym (lowest_given turn_of record_of limit (live_of w) (live_of s) xs u long beside i e d h ∙ ap Some (sym q))
 
         module _ (x : A) (k : turn_of x ≡ turn_of (get_or xs i d)) (r : Live) (g : live_of r ≡ set (live_of w) i true) where
           pub opened_used : Used turn_of limit (live_of r) (live_of s) (set xs i x)
@@ -136,3 +116,25 @@ module _ {A R : Type 0} (turn_of : A → ℕ) (record_of : A → R) (d : A) (lim
       closed_places =
           let next : turn_of x ≡ suc (n / 64) = omega arith in
           ap (λ (l : List Bool). places_of turn_of record_of l (set xs (n % 64) x)) g ∙ places_clear turn_of record_of (live_of w) xs n x next
+
+    -- the same, of the place and the turns as they were found
+    module _ (place over : ℕ) (here : place ≡ n % 64) (next : over ≡ n / 64 + 1) where
+      pub ending_small : place < limit
+      ending_small = omega (arith, closing_small)
+
+      module _ (x : A) (k : turn_of x ≡ over) (p : Places) (g : live_of p.live ≡ set (live_of w) place false) (z : live_of p.spent ≡ spent_by (live_of s) place over) where
+        live_left : live_of p.live ≡ set (live_of w) (n % 64) false
+        live_left = g ∙ ap (λ (i : ℕ). set (live_of w) i false) here
+
+        spent_left : live_of p.spent ≡ spent_by (live_of s) (n % 64) (n / 64 + 1)
+        spent_left = z ∙ ap₂ (spent_by (live_of s)) here next
+
+        pub ended_used : Used turn_of limit (live_of p.live) (live_of p.spent) (set xs place x)
+        ended_used =
+            subst (λ (i : ℕ). Used turn_of limit (live_of p.live) (live_of p.spent) (set xs i x)) (sym here)
+            (closed_used x (k ∙ next) p.live p.spent live_left spent_left)
+
+        pub ended_places : places_of turn_of record_of (live_of p.live) (set xs place x) ≡ clear (places_of turn_of record_of (live_of w) xs) n
+        ended_places =
+            ap (λ (i : ℕ). places_of turn_of record_of (live_of p.live) (set xs i x)) here
+            ∙ closed_places x (k ∙ next) p.live p.spent live_left spent_left

@@ -1,4 +1,6 @@
--- Read Places, what an array of records with its words means; then Meaning, what handles and permits mean; then Calls, what the methods do.
+-- Read Places, what an array of records with its words means; then Records, what one record shows; then Meaning, what handles and permits mean;
+-- then Calls, what the methods do.
 pub mod Places
+pub mod Records
 pub mod Meaning
 pub mod Calls

@@ -5,61 +5,34 @@
 // name on that (specs/Calls.antt).
 #![tactic(auto)]
 
-ghost use Rattle.std.specs.Prelude.{◌≡◌, true, ◌+◌, ◌*◌, ◌<◌, ◌≤◌, get_or};
-ghost use Rattle.live.specs.Bits.{live_of};
+ghost use Rattle.std.specs.Prelude.{◌≡◌, ℕ, ⊤, true, false, ◌+◌, ◌*◌, ◌/◌, ◌%◌, ◌<◌, ◌≤◌, get_or, set};
+ghost use Rattle.live.specs.Bits.{live_of, none_live, lowest_clear, either, count_live};
 ghost use Rattle.model.specs.Table as model;
-ghost use Rattle.model.specs.Table.{vacant, in_place, lookup, was_closed, live, of, sum};
-ghost use Rattle.tables.specs.Places.{spent_by};
-ghost use Rattle.tables.specs.Meaning.{handles_of, permits_of, is_live, no_handle, no_permit, belongs, HandlesSound, PermitsSound};
-ghost use Rattle.tables.specs.Calls.{NoHandles, NoPermits, Clones, Leaves, Gives, Drops};
+ghost use Rattle.model.specs.Table.{Table, vacant, turn, in_place, lookup, was_closed, live, of, sum};
+ghost use Rattle.tables.specs.Places.{spent_by, Used, is_live, Marks};
+ghost use Rattle.tables.specs.Records.{no_handle, handle_turn, no_permit, permit_turn, Wiped};
 
 use live::Live;
 
 // The last turn of a place: its numbers are the last that fit.
 pub const LAST_TURN: u32 = 67108863;
 
+// What a record's number says: its place, and how many turns of that place were over when it was given.
 #[derive(Clone, Copy)]
-pub struct Handle {
-    turn: u32,
+pub struct Number {
+    pub place: u32,
+    pub turn: u32,
 }
 
-#[derive(Clone, Copy)]
-pub struct Handles {
-    table: [Handle; 16],
-    spent: Live,
-    live: Live,
-}
+impl From<u32> for Number {
+    ghost from_gives = { λ n r. (r.place ≡ n % 64) × (r.turn ≡ n / 64) };
 
-#[derive(Clone, Copy)]
-pub struct Permit {
-    owner: u32,
-    turn: u32,
-}
-
-#[derive(Clone, Copy)]
-pub struct Permits {
-    live: Live,
-    spent: Live,
-    table: [Permit; 64],
-}
-
-// The number of a new record of any kind, if one was free.
-#[derive(Clone, Copy)]
-pub enum Number {
-    NoRoom,
-    Given(u32),
-}
-
-#[derive(Clone, Copy)]
-pub struct Cloned {
-    pub number: Number,
-    pub handles: Handles,
-}
-
-#[derive(Clone, Copy)]
-pub struct Given {
-    pub number: Number,
-    pub permits: Permits,
+    fn from(n: u32) -> Number {
+        Number {
+            place: n % 64,
+            turn: n / 64,
+        }
+    }
 }
 
 // The number of a record at a place and a turn.
@@ -71,6 +44,55 @@ pub fn number_at(place: u32, turn: u32) -> u32
     place + 64 * turn
 }
 
+// Which places of a table are live, and which are used up: their last turn is over.
+#[derive(Clone, Copy)]
+pub struct Places {
+    pub live: Live,
+    pub spent: Live,
+}
+
+impl Places {
+    // No place is live, and none was.
+    pub fn fresh() -> Places
+        ensures live { live_of result.live ≡ none_live }
+        ensures spent { live_of result.spent ≡ none_live }
+    {
+        Places {
+            live: Live::fresh(),
+            spent: Live::fresh(),
+        }
+    }
+
+    // The lowest place that is not live and has a turn left; 64 where there is none.
+    pub fn lowest_free(self) -> u32
+        ensures { result ≡ lowest_clear (either (live_of self.live) (live_of self.spent)) }
+    {
+        self.live.lowest_beside(self.spent)
+    }
+
+    // The place is live from now on.
+    pub fn opened(self, place: u32) -> Places
+        ensures live { live_of result.live ≡ set (live_of self.live) place true }
+        ensures spent { result.spent ≡ self.spent }
+    {
+        Places {
+            live: self.live.with(place),
+            ..self
+        }
+    }
+
+    // The place is live no more, this many of its turns are over, and it is used up if the last one is.
+    pub fn closed(self, place: u32, over: u32) -> Places
+        ensures live { live_of result.live ≡ set (live_of self.live) place false }
+        ensures spent { live_of result.spent ≡ spent_by (live_of self.spent) place over }
+    {
+        Places {
+            live: self.live.without(place),
+            spent: spent_by(self.spent, place, over),
+        }
+    }
+}
+
 // The places that are used up, once this many turns of a place are over.
 pub fn spent_by(spent: Live, place: u32, over: u32) -> Live
     ensures { live_of result ≡ spent_by (live_of spent) place over }
@@ -79,6 +101,87 @@ pub fn spent_by(spent: Live, place: u32, over: u32) -> Live
         return spent;
     }
     spent.with(place)
+}
+
+// The number of a new record of any kind, if one was free, and the table with it.
+#[derive(Clone, Copy)]
+pub struct Opened<T> {
+    pub number: Option<u32>,
+    pub next: T,
+}
+
+// A table of numbered records. Each kind says which of its places are live and how many turns of a place are over; what a number says of the
+// table follows from these two, once for every kind.
+pub trait Numbered: Copy {
+    // What a live record shows, the definition's table, and what a table keeps where its type does not say so already.
+    ghost Shown: { Type 0 };
+
+    ghost table_of: { Self → Table Shown };
+
+    ghost kept: { Self → Type 0 } = { λ _. ⊤ };
+
+    // The word of the live places.
+    fn live_places(self) -> Live
+        requires { kept self }
+        ensures { Marks (live_of result) (table_of self) };
+
+    // How many turns of a place are over: the turn of the record that is live there, or of the next one. A place past the limit has none.
+    fn turn_at(self, place: u32) -> u32
+        requires { kept self }
+        ensures { result ≡ turn (get_or (table_of self) place (vacant 0)) };
+
+    // A number is live where its place is, at the number's turn.
+    fn has(self, n: u32) -> bool
+        requires { kept self }
+        ensures { result ≡ is_live (lookup (table_of self) n) }
+    {
+        let number = Number::from(n);
+        self.live_places().has(number.place) && self.turn_at(number.place) == number.turn
+    }
+
+    // Was a number given, and is it closed? Then its place has gone past its turn. A place past the limit was never given.
+    fn closed(self, n: u32) -> bool
+        requires { kept self }
+        ensures { result ≡ was_closed (table_of self) n }
+    {
+        let number = Number::from(n);
+        number.turn < self.turn_at(number.place)
+    }
+
+    // How many records are live.
+    fn count(self) -> u32
+        requires { kept self }
+        ensures { result ≡ live (table_of self) }
+    {
+        self.live_places().count()
+    }
+}
+
+#[derive(Clone, Copy)]
+pub struct Handle {
+    turn: u32,
+}
+
+#[derive(Clone, Copy)]
+pub struct Handles {
+    table: [Handle; 16],
+    places: Places,
+    ghost used: { Used handle_turn 16 (live_of places.live) (live_of places.spent) table },
+}
+
+#[derive(Clone, Copy)]
+pub struct Permit {
+    owner: u32,
+    turn: u32,
+}
+
+// A place that is not live holds its turn and nothing else: no owner of a permit that is gone.
+#[derive(Clone, Copy)]
+pub struct Permits {
+    places: Places,
+    table: [Permit; 64],
+    ghost used: { Used permit_turn 64 (live_of places.live) (live_of places.spent) table },
+    ghost wiped: { Wiped (live_of places.live) table },
 }
 
 impl Handle {
@@ -92,109 +195,68 @@ impl Handle {
     }
 }
 
+impl Numbered for Handles {
+    ghost use Rattle.model.specs.Queue.{Mark};
+    ghost use Rattle.tables.specs.Meaning.{handles_of};
+
+    ghost Shown = { Mark };
+
+    ghost table_of = { handles_of };
+
+    fn live_places(self) -> Live {
+        self.places.live
+    }
+
+    fn turn_at(self, place: u32) -> u32 {
+        if place < Handle::LIMIT {
+            return self.table[place as usize].turn;
+        }
+        0
+    }
+}
+
 impl Handles {
+    ghost use Rattle.tables.specs.Meaning.{handles_of};
+    ghost use Rattle.tables.specs.Calls.{NoHandles, Clones, Leaves};
+
     // No handle is live, and none was.
     pub fn fresh() -> Handles
         ensures { NoHandles result }
     {
-        let live = Live::fresh();
-        let spent = Live::fresh();
-        let handle = Handle::fresh();
-        let table = [handle; 16];
         Handles {
-            live: live,
-            spent: spent,
-            table: table,
+            table: [Handle::fresh(); 16],
+            places: Places::fresh(),
         }
-    }
-
-    // A number is live where its place is, at the number's turn.
-    pub fn has(self, n: u32) -> bool
-        requires { HandlesSound self }
-        ensures { result ≡ is_live (lookup (handles_of self) n) }
-    {
-        let place = n % 64;
-        let word = self.live;
-        if word.has(place) {
-            let i = place as usize;
-            let handle = self.table[i];
-            return handle.turn == n / 64;
-        }
-        false
-    }
-
-    // Was a number given, and is it closed? Then its place has gone past its turn. A place past the limit was never given.
-    pub fn closed(self, n: u32) -> bool
-        requires { HandlesSound self }
-        ensures { result ≡ was_closed (handles_of self) n }
-    {
-        let place = n % 64;
-        if place < Handle::LIMIT {
-            let i = place as usize;
-            let handle = self.table[i];
-            return n / 64 < handle.turn;
-        }
-        false
-    }
-
-    pub fn count(self) -> u32
-        requires { HandlesSound self }
-        ensures { result ≡ live (handles_of self) }
-    {
-        let word = self.live;
-        word.count()
     }
 
     // A new handle at the lowest free place with a turn left, if there is one.
-    pub fn open(self) -> Cloned
-        requires { HandlesSound self }
+    pub fn open(mut self) -> Opened<Handles>
         ensures { Clones self result }
     {
-        let word = self.live;
-        let spent = self.spent;
-        let place = word.lowest_beside(spent);
-        if place < Handle::LIMIT {
-            let i = place as usize;
-            let table = self.table;
-            let handle = table[i];
-            let turn = handle.turn;
-            let n = number_at(place, turn);
-            let grown = word.with(place);
-            return Cloned {
-                number: Number::Given(n),
-                handles: Handles {
-                    live: grown,
-                    spent: spent,
-                    table: table,
-                },
+        let place = self.places.lowest_free();
+        if place >= Handle::LIMIT {
+            return Opened {
+                number: None,
+                next: self,
             };
         }
-        Cloned {
-            number: Number::NoRoom,
-            handles: self,
+        let number = number_at(place, self.table[place as usize].turn);
+        self.places = self.places.opened(place);
+        Opened {
+            number: Some(number),
+            next: self,
         }
     }
 
     // A live handle goes, and one more turn of its place is over.
-    pub fn close(self, n: u32) -> Handles
-        requires handles_sound { HandlesSound self }
-        requires is_given { is_live (lookup (handles_of self) n) ≡ true }
+    pub fn close(mut self, n: u32) -> Handles
+        requires { is_live (lookup (handles_of self) n) ≡ true }
         ensures { Leaves self n result }
     {
-        let place = n % 64;
-        let over = n / 64 + 1;
-        let i = place as usize;
-        let mut table = self.table;
-        table[i] = Handle { turn: over };
-        let word = self.live;
-        let left = word.without(place);
-        let before = self.spent;
-        let spent = spent_by(before, place, over);
-        Handles {
-            live: left,
-            spent: spent,
-            table: table,
-        }
+        let Number { place, turn } = Number::from(n);
+        self.table[place as usize] = Handle { turn: turn + 1 };
+        self.places = self.places.closed(place, turn + 1);
+        self
     }
 }
 
@@ -209,144 +271,86 @@ impl Permit {
     }
 }
 
+impl Numbered for Permits {
+    ghost use Rattle.tables.specs.Meaning.{permits_of};
+
+    ghost Shown = { ℕ };
+
+    ghost table_of = { permits_of };
+
+    fn live_places(self) -> Live {
+        self.places.live
+    }
+
+    fn turn_at(self, place: u32) -> u32 {
+        if place < Permit::LIMIT {
+            return self.table[place as usize].turn;
+        }
+        0
+    }
+}
+
 impl Permits {
+    ghost use Rattle.tables.specs.Meaning.{permits_of, belongs, is_own};
+    ghost use Rattle.tables.specs.Calls.{NoPermits, Gives, Drops};
+
     // No permit is live, and none was.
     pub fn fresh() -> Permits
         ensures { NoPermits result }
     {
-        let live = Live::fresh();
-        let spent = Live::fresh();
-        let permit = Permit::fresh();
-        let table = [permit; 64];
         Permits {
-            live: live,
-            spent: spent,
-            table: table,
+            places: Places::fresh(),
+            table: [Permit::fresh(); 64],
         }
     }
 
     // A permit of a sender at the lowest free place with a turn left, if there is one.
-    pub fn open(self, owner: u32) -> Given
-        requires { PermitsSound self }
+    pub fn open(mut self, owner: u32) -> Opened<Permits>
         ensures { Gives self owner result }
     {
-        let live = self.live;
-        let spent = self.spent;
-        let place = live.lowest_beside(spent);
-        if place < Permit::LIMIT {
-            let i = place as usize;
-            let mut table = self.table;
-            let permit = table[i];
-            let turn = permit.turn;
-            table[i] = Permit {
-                owner: owner,
-                turn: turn,
-            };
-            let n = number_at(place, turn);
-            let grown = live.with(place);
-            return Given {
-                number: Number::Given(n),
-                permits: Permits {
-                    live: grown,
-                    spent: spent,
-                    table: table,
-                },
+        let place = self.places.lowest_free();
+        if place >= Permit::LIMIT {
+            return Opened {
+                number: None,
+                next: self,
             };
         }
-        Given {
-            number: Number::NoRoom,
-            permits: self,
+        let turn = self.table[place as usize].turn;
+        self.table[place as usize] = Permit { owner, turn };
+        self.places = self.places.opened(place);
+        Opened {
+            number: Some(number_at(place, turn)),
+            next: self,
         }
-    }
-
-    // A number is live where its place is, at the number's turn.
-    pub fn has(self, n: u32) -> bool
-        requires { PermitsSound self }
-        ensures { result ≡ is_live (lookup (permits_of self) n) }
-    {
-        let place = n % 64;
-        let word = self.live;
-        if word.has(place) {
-            let i = place as usize;
-            let permit = self.table[i];
-            return permit.turn == n / 64;
-        }
-        false
-    }
-
-    // Was a number given, and is it closed? Then its place has gone past its turn.
-    pub fn closed(self, n: u32) -> bool
-        requires { PermitsSound self }
-        ensures { result ≡ was_closed (permits_of self) n }
-    {
-        let place = n % 64;
-        let i = place as usize;
-        let permit = self.table[i];
-        n / 64 < permit.turn
     }
 
     // A live permit goes, one more turn of its place is over, and nothing of it is left.
-    pub fn close(self, n: u32) -> Permits
-        requires permits_sound { PermitsSound self }
-        requires is_given { is_live (lookup (permits_of self) n) ≡ true }
+    pub fn close(mut self, n: u32) -> Permits
+        requires { is_live (lookup (permits_of self) n) ≡ true }
         ensures { Drops self n result }
     {
-        let place = n % 64;
-        let over = n / 64 + 1;
-        let i = place as usize;
-        let mut table = self.table;
-        table[i] = Permit {
+        let Number { place, turn } = Number::from(n);
+        self.table[place as usize] = Permit {
             owner: 0,
-            turn: over,
+            turn: turn + 1,
         };
-        let word = self.live;
-        let left = word.without(place);
-        let before = self.spent;
-        let spent = spent_by(before, place, over);
-        Permits {
-            live: left,
-            spent: spent,
-            table: table,
-        }
+        self.places = self.places.closed(place, turn + 1);
+        self
     }
 
-    pub fn count(self) -> u32
-        requires { PermitsSound self }
-        ensures { result ≡ live (permits_of self) }
+    // Is a permit live at the place, and does it belong to the sender?
+    fn owned(self, place: u32, owner: u32) -> bool
+        ensures { result ≡ is_own owner (in_place (get_or (permits_of self) place (vacant 0))) }
     {
-        let word = self.live;
-        word.count()
-    }
-
-    // 1 if a permit is live at the place and it belongs to the sender, else 0.
-    fn owned(self, place: u32, owner: u32) -> u32
-        requires { PermitsSound self }
-        ensures { result ≡ of (belongs owner) (in_place (get_or (permits_of self) place (vacant 0))) }
-    {
-        let word = self.live;
-        if word.has(place) {
-            let i = place as usize;
-            let permit = self.table[i];
-            let own = permit.owner;
-            if owner == own {
-                return 1;
-            }
-        }
-        0
+        self.places.live.has(place) && owner == self.table[place as usize].owner
     }
 
     // How many belong to a sender.
     pub fn owned_by(self, owner: u32) -> u32
-        requires { PermitsSound self }
         ensures { result ≡ sum (belongs owner) (permits_of self) }
     {
-        let mut total: u32 = 0;
-        let mut place: u32 = 0;
-        while place < Permit::LIMIT {
-            let one = self.owned(place, owner);
-            total += one;
-            place += 1;
-        }
-        total
+        (0..Permit::LIMIT)
+            .filter(|place| self.owned(*place, owner))
+            .count() as u32
     }
 }

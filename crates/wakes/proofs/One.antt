@@ -1,10 +1,10 @@
 -- Promises determine: two wait lists of one meaning are called and woken alike. Assumes nothing.
 use Prim.Native.Nat.{ℕ}
+use Rattle.std.specs.Prelude.{Option, Some, None}
+use Rattle.arena.specs.declared.WaiterId.{WaiterId}
 use mathlib.Core.Path.{◌≡◌, refl, sym, ap, ◌∙◌}
 use mathlib.Core.List.{List, map}
-use lib.ListN.{length, take, drop}
-use Rattle.arena.specs.declared.OptWaiter.{OptWaiter}
-use Rattle.arena.specs.declared.OptWaiter.TheVariants.{Nobody, Id}
+use lib.ListN.{length, drop}
 use Rattle.arena.specs.declared.Waiter.TheVariants.{Called}
 use Rattle.waitlist.specs.declared.WaitList.{WaitList}
 use Rattle.waitlist.specs.View.{waiter_id, held, renew, line, along, token_of, first_of}
@@ -13,7 +13,8 @@ use Rattle.waitlist.proofs.Segs.{same_id, no_id}
 use Rattle.waitlist.proofs.One.{Same}
 use native.Mathlib.Decide.{ℕ_discrete}
 use Rattle.wakes.specs.declared.CalledOut.{CalledOut}
-use Rattle.wakes.specs.declared.Wakes.{Wakes}
+use Rattle.wakes.specs.declared.tokens.Wakes.{Wakes}
+use Rattle.wakes.specs.Tokens.{tokens_of}
 use Rattle.wakes.specs.Calls.{CallsFirst, WakesAll}
 
 module _ (v w : WaitList) (s : Same v w) where
@@ -30,26 +31,26 @@ module _ (v w : WaitList) (s : Same v w) where
   )
     where
       who : r.who ≡ t.who
-      who = p.who ∙ (ap (λ (l : List ℕ). first_of l Nobody) s.lines ∙ sym q.who)
+      who = p.who ∙ (ap (λ (l : List ℕ). first_of l None) s.lines ∙ sym q.who)
 
-      by : (o : OptWaiter) → r.who ≡ o → r.held ≡ t.held
-      by Nobody e = p.nobody e ∙ sym (q.nobody (sym who ∙ e))
-      by (Id id) e = p.was id.0.0 e ∙ (s.holds id.0.0 ∙ sym (q.was id.0.0 (sym who ∙ e)))
+      by : (o : Option WaiterId) → r.who ≡ o → r.held ≡ t.held
+      by None e = p.nobody e ∙ sym (q.nobody (sym who ∙ e))
+      by (Some id) e = p.was id.0.0 e ∙ (s.holds id.0.0 ∙ sym (q.was id.0.0 (sym who ∙ e)))
 
-      holds : (o : OptWaiter) → r.who ≡ o → (k : ℕ) → held r.list k ≡ held t.list k
-      holds Nobody e k =
+      holds : (o : Option WaiterId) → r.who ≡ o → (k : ℕ) → held r.list k ≡ held t.list k
+      holds None e k =
           p.there k (λ z. no_id k (sym e ∙ z)) ∙ (s.holds k ∙ sym (q.there k (λ z. no_id k (sym e ∙ (who ∙ z)))))
-      holds (Id id) e k =
+      holds (Some id) e k =
           elim (ℕ_discrete k id.0.0) [
             | yes h ↦
-                let mine : r.who ≡ Id (waiter_id k) = e ∙ ap (λ (i : ℕ). Id (waiter_id i)) (sym h) in
+                let mine : r.who ≡ Some (waiter_id k) = e ∙ ap (λ (i : ℕ). Some (waiter_id i)) (sym h) in
                 p.here k mine ∙ (ap (renew Called) (s.holds k) ∙ sym (q.here k (sym who ∙ mine)))
             | no h ↦
                 p.there k (λ z. h (same_id k id.0.0 (sym z ∙ e)))
                 ∙ (s.holds k ∙ sym (q.there k (λ z. h (same_id k id.0.0 (sym z ∙ (sym who ∙ e))))))
           ]
 
-  pub wake_one : (r t : Wakes) → WakesAll v r → WakesAll w t → (take r.n r.tokens ≡ take t.n t.tokens) × (r.n ≡ t.n)
+  pub wake_one : (r t : Wakes) → WakesAll v r → WakesAll w t → (tokens_of r ≡ tokens_of t) × (length (tokens_of r) ≡ length (tokens_of t))
   unfolding along
   wake_one r t p q = (
     p.tokens

@@ -7,32 +7,33 @@ ghost use Rattle.waitlist.specs.View.{token_of};
 ghost use Rattle.waitlist.specs.Sound.{Sound};
 ghost use Rattle.wakes.specs.Calls.{CallsFirst, WakesAll};
 
-use arena::{OptWaiter, Waiter};
+use arena::{Arena, Waiter, WaiterId};
 use waitlist::{Held, WaitList};
 
+mod tokens;
+
+pub use tokens::Wakes;
+
+// Who was called and what it held; with no id the line was empty.
 #[derive(Clone, Copy)]
 pub struct CalledOut {
-    pub who: OptWaiter,
-    pub held: Held,
+    pub who: Option<WaiterId>,
+    pub held: Option<Held>,
     pub list: WaitList,
 }
 
-// The tokens of the line are the first n.
-#[derive(Clone, Copy)]
-pub struct Wakes {
-    pub tokens: [u32; 32],
-    pub n: usize,
-}
-
-fn token(h: Held) -> u32
-    ensures { result ≡ token_of h }
+// A waiter that was called already has no token left to wake.
+fn token(held: Option<Held>) -> u32
+    ensures { result ≡ token_of held }
 {
-    match h {
-        Held::Empty => 0,
-        Held::Holding { op: _, waiter } => match waiter {
-            Waiter::Waiting(t) => t,
-            Waiter::Called => 0,
-        },
+    match held {
+        Some(
+            Held {
+                waiter: Waiter::Waiting(token),
+                ..
+            },
+        ) => token,
+        _ => 0,
     }
 }
 
@@ -42,23 +43,17 @@ pub fn call_first(list: WaitList) -> CalledOut
     ensures { CallsFirst list result }
 {
     let first = list.unlink_first();
-    let who = first.id;
-    let rest = first.list;
-    match who {
-        OptWaiter::Nobody => CalledOut {
-            who: who,
-            held: Held::Empty,
-            list: rest,
-        },
-        OptWaiter::Id(id) => {
-            let held = rest.waiter(id);
-            let called = rest.set_waiter(id, Waiter::Called);
-            CalledOut {
-                who: who,
-                held: held,
-                list: called,
-            }
-        }
+    let Some(id) = first.id else {
+        return CalledOut {
+            who: None,
+            held: None,
+            list: first.list,
+        };
+    };
+    CalledOut {
+        who: Some(id),
+        held: first.list.waiter(id),
+        list: first.list.set_waiter(id, Waiter::Called),
     }
 }
 
@@ -68,30 +63,14 @@ pub fn wake_all(list: WaitList) -> Wakes
     ensures { WakesAll list result }
 {
     let mut left = list;
-    let mut tokens = [0u32; 32];
-    let mut n: usize = 0;
-    while n < 32 {
+    let mut wakes = Wakes::none();
+    for _ in 0..Arena::SLOTS {
         let first = left.unlink_first();
-        let who = first.id;
-        match who {
-            OptWaiter::Nobody => {
-                return Wakes {
-                    tokens: tokens,
-                    n: n,
-                };
-            }
-            OptWaiter::Id(id) => {
-                let held = left.waiter(id);
-                let t = token(held);
-                tokens[n] = t;
-                n += 1;
-                let rest = first.list;
-                left = rest;
-            }
-        }
+        let Some(id) = first.id else {
+            return wakes;
+        };
+        wakes.push(token(left.waiter(id)));
+        left = first.list;
     }
-    Wakes {
-        tokens: tokens,
-        n: n,
-    }
+    wakes
 }

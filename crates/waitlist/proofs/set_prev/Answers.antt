@@ -1,13 +1,8 @@
--- `waitlist::set_prev` meets its contract. Nobody; no links; links.
+-- `waitlist::set_prev` meets its contract. The closure computes the links with another `prev`.
 -- Assumes nothing.
-use Rattle.waitlist.proofs.Links.{relinked_nobody, relinked_none, relinked_some}
+use Rattle.arena.specs.declared.Links.{Links}
+use Rattle.std.proofs.Common.{rules}
 use Rattle.waitlist.proofs.set_prev.Goals as goal
 
-pub returns-in-Nobody : goal.returns-in-Nobody
-returns-in-Nobody c = search relinked_nobody
-
-pub returns-in-Detached : goal.returns-in-Detached
-returns-in-Detached c = search relinked_none
-
-pub returns-in-Linked : goal.returns-in-Linked
-returns-in-Linked c = search relinked_some
+pub returns : goal.returns
+returns c = c.change_links.ensures (λ (l : Links). record { prev = c.args.prev; next = l.next }) (λ l m p. search rules)

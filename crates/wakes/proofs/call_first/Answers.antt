@@ -3,8 +3,8 @@
 use Rattle.wakes.proofs.Steps.{call_none, call_some}
 use Rattle.wakes.proofs.call_first.Goals as goal
 
-pub returns-in-Nobody : goal.returns-in-Nobody
-returns-in-Nobody c = search call_none
+pub returns-in_default : goal.returns-in_default
+returns-in_default c = search call_none
 
-pub returns-in-Id : goal.returns-in-Id
-returns-in-Id c = search call_some
+pub returns : goal.returns
+returns c = search call_some

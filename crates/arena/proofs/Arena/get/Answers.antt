@@ -1,14 +1,14 @@
--- `arena::Arena::get` meets its contract. Each way says what stands in the slot.
+-- `arena::Arena::get` meets its contract. The cell that the lookup found says what stands in the slot.
 -- Assumes nothing.
-use mathlib.Core.Path.{sym}
-use Rattle.arena.proofs.Steps.{at_past, at_found, at_vacant}
+use mathlib.Core.Path.{sym, ap, ◌∙◌}
+use Rattle.arena.specs.View.{holds}
+use Rattle.arena.proofs.Steps.{at_cell}
 use Rattle.arena.proofs.Arena.get.Goals as goal
 
-pub returns-then-i-ge-SLOTS : goal.returns-then-i-ge-SLOTS
-returns-then-i-ge-SLOTS c = sym (search at_past)
-
 pub returns-in-Occupied : goal.returns-in-Occupied
-returns-in-Occupied c = sym (search at_found)
+returns-in-Occupied c =
+    ap holds (sym c.in-Occupied.is) ∙ at_cell c.args.self c.requires c.args.id.0 c.from.result c.in_ok-node.field-0.now c.from.ensures c.in_ok-node.ensures.lookup.0 c.in_ok-node.ensures.lookup.1
 
 pub returns-in-Vacant : goal.returns-in-Vacant
-returns-in-Vacant c = sym (search at_vacant)
+returns-in-Vacant c =
+    ap holds (sym c.in-Vacant.is) ∙ at_cell c.args.self c.requires c.args.id.0 c.from.result c.in_ok-node.field-0.now c.from.ensures c.in_ok-node.ensures.lookup.0 c.in_ok-node.ensures.lookup.1

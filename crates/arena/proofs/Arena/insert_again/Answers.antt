@@ -1,14 +1,19 @@
--- `arena::Arena::insert_again` meets its contract. A chain that leads out of reach, which is not so; one that leads to an occupied slot, which
--- is not so; a slot used again.
+-- `arena::Arena::insert_again` meets its contract. The chain's first slot is in reach and vacant, and is used again.
 -- Assumes nothing.
-use Rattle.arena.proofs.Steps.{insert_beyond, insert_taken, insert_reuse}
+use Rattle.arena.proofs.Steps.{head_small, head_vacant, insert_reuse}
 use Rattle.arena.proofs.Arena.insert_again.Goals as goal
 
-pub returns-then-i-ge-SLOTS : goal.returns-then-i-ge-SLOTS
-returns-then-i-ge-SLOTS c = search insert_beyond
+pub bounds : goal.bounds
+bounds c = search head_small
 
-pub returns-in-Occupied : goal.returns-in-Occupied
-returns-in-Occupied c = search insert_taken
+pub bounds-self-i : goal.bounds-self-i
+bounds-self-i c = search head_small
 
-pub returns-in-Vacant : goal.returns-in-Vacant
-returns-in-Vacant c = search insert_reuse
+pub unreachable-requires : goal.unreachable-requires
+unreachable-requires c = search (head_vacant, c.in_default.not-Vacant)
+
+pub bounds-self-i-2 : goal.bounds-self-i-2
+bounds-self-i-2 c = search head_small
+
+pub returns : goal.returns
+returns c = let e = rw c.from-i.ensures at c.in-Vacant.is in rw c.from-i.ensures (search insert_reuse)

@@ -4,7 +4,7 @@ use Rattle.arena.proofs.Steps.{insert_full, insert_next}
 use Rattle.arena.proofs.Arena.insert_next.Goals as goal
 
 pub returns-then-i-ge-SLOTS : goal.returns-then-i-ge-SLOTS
-returns-then-i-ge-SLOTS c = search insert_full
+returns-then-i-ge-SLOTS c = let e = rw c.from-i.ensures at c.if-i-ge-SLOTS.true in search insert_full
 
 pub returns : goal.returns
-returns c = search insert_next
+returns c = let e = rw c.from-i.ensures at c.if-i-ge-SLOTS.false in rw c.from-i.ensures (search insert_next)

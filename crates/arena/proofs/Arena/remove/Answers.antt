@@ -1,16 +1,11 @@
--- `arena::Arena::remove` meets its contract. Past the end; vacant; occupied, and then the count is not 0.
+-- `arena::Arena::remove` meets its contract. With an occupied slot the count is not 0.
 -- Assumes nothing.
-use Rattle.arena.proofs.Steps.{remove_none, at_past, len_pos, at_vacant, remove_some}
+use mathlib.Core.Path.{sym, ◌∙◌}
+use Rattle.arena.proofs.Steps.{len_pos, remove_done}
 use Rattle.arena.proofs.Arena.remove.Goals as goal
 
-pub returns-then-i-ge-SLOTS : goal.returns-then-i-ge-SLOTS
-returns-then-i-ge-SLOTS c = search (remove_none, at_past)
+pub overflow_sub-self : goal.overflow_sub-self
+overflow_sub-self c = let e = sym c.is_some.ensures ∙ c.if-is_some.true in search len_pos
 
-pub overflow_sub-len : goal.overflow_sub-len
-overflow_sub-len c = search len_pos
-
-pub returns-in-Vacant : goal.returns-in-Vacant
-returns-in-Vacant c = search (remove_none, at_vacant)
-
-pub returns-in-Occupied : goal.returns-in-Occupied
-returns-in-Occupied c = search remove_some
+pub returns-then-is_some : goal.returns-then-is_some
+returns-then-is_some c = let e = sym c.is_some.ensures ∙ c.if-is_some.true in rw c.from.ensures (search remove_done)

@@ -1,11 +1,15 @@
 -- `ring::Ring::push_back` meets its contract.
 -- Assumes nothing.
-use native.Mathlib.Omega.{arith}
-use Rattle.ring.proofs.Laws.{length_values, push_holds}
+use Rattle.ring.proofs.Laws.{push_fits, push_zeroed, push_values}
+use Rattle.ring.specs.Values.{values, sound_of}
 use Rattle.ring.proofs.Ring.push_back.Goals as goal
 
+pub invariant_of-self-clause-fits : goal.invariant_of-self-clause-fits
+invariant_of-self-clause-fits c = push_fits c.args.self c.args.v c.requires
+
+pub invariant_of-self-clause-zeroed : goal.invariant_of-self-clause-zeroed
+invariant_of-self-clause-zeroed c = push_zeroed c.args.self c.args.v c.requires
+
 pub returns : goal.returns
-returns c =
-    let x = c.args in
-    let room = length_values x.self in
-    push_holds x.self c.wrapped-at.result x.v c.requires.0 (omega arith) c.wrapped-at.ensures
+unfolding values
+returns c = (sound_of _, push_values c.args.self c.args.v c.requires)

@@ -3,8 +3,8 @@
 use Rattle.side.proofs.Opens.{at_small, at_found, at_missing}
 use Rattle.side.proofs.Side.at.Goals as goal
 
-pub bounds-self-i : goal.bounds-self-i
-bounds-self-i c = search at_small
+pub bounds-self-place : goal.bounds-self-place
+bounds-self-place c = search at_small
 
 pub returns-then-has : goal.returns-then-has
 returns-then-has c = search at_found

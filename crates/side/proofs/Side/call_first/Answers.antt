@@ -7,8 +7,8 @@ use Rattle.side.proofs.Side.call_first.Goals as goal
 pub number_at-number-requires : goal.number_at-number-requires
 number_at-number-requires c = search (rules, first_small, first_turn)
 
-pub returns-in-Nobody : goal.returns-in-Nobody
-returns-in-Nobody c = search call_nobody
+pub returns-in_default : goal.returns-in_default
+returns-in_default c = search call_nobody
 
-pub returns-in-Id : goal.returns-in-Id
-returns-in-Id c = search call_one
+pub returns : goal.returns
+returns c = search call_one

@@ -1,7 +1,12 @@
 -- `side::Side::close_line` meets its contract.
 -- Assumes nothing.
-use Rattle.side.proofs.Calling.{close_done}
+use Rattle.std.proofs.Common.{◌≡◌, map, rules, of_calls}
+use Rattle.side.specs.Meaning.{voided}
+use Rattle.side.proofs.Calling.{all_voided, close_done}
 use Rattle.side.proofs.Side.close_line.Goals as goal
 
 pub returns : goal.returns
-returns c = search close_done
+returns c =
+    let h = c.map.ensures.items in
+    let e : c.map.result ≡ map voided c.args.self.ops = all_voided c.args.self.ops c.map.result c.requires.used.sized h.long (λ i x y b. let q = (h.at i x y b).2 in search (rules, of_calls)) in
+    search close_done

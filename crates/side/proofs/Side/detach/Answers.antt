@@ -1,20 +1,20 @@
--- `side::Side::detach` meets its contract. Not polled; its line closed; a node.
+-- `side::Side::detach` meets its contract. A node; no node.
 -- Assumes nothing.
-use Rattle.side.proofs.Numbers.{is_small}
-use Rattle.side.proofs.Steps.{detach_idle, detach_void, detach_node}
+use Rattle.side.proofs.Numbers.{in_array}
+use Rattle.side.proofs.Steps.{detach_none, detach_node}
 use Rattle.side.proofs.Side.detach.Goals as goal
 
 pub bounds-self-i : goal.bounds-self-i
-bounds-self-i c = search is_small
+bounds-self-i c = search in_array
 
-pub bounds-ops-i : goal.bounds-ops-i
-bounds-ops-i c = search is_small
+pub bounds-self-i-in-At : goal.bounds-self-i-in-At
+bounds-self-i-in-At c = search in_array
 
-pub returns-in-Idle : goal.returns-in-Idle
-returns-in-Idle c = search detach_idle
-
-pub returns-in-Void : goal.returns-in-Void
-returns-in-Void c = search detach_void
+pub bounds : goal.bounds
+bounds c = search in_array
 
 pub returns-in-At : goal.returns-in-At
 returns-in-At c = search detach_node
+
+pub returns-in_default : goal.returns-in_default
+returns-in_default c = search detach_none

@@ -1,14 +1,14 @@
--- `side::Side::open` meets its contract.
+-- `side::Side::open` meets its contract. No place is left; one is.
 -- Assumes nothing.
 use Rattle.side.proofs.Opens.{turn_left, open_given, open_full}
 use borrow.Author.Rules.{rules}
 use Rattle.side.proofs.Side.open.Goals as goal
 
-pub number_at-number-requires : goal.number_at-number-requires
-number_at-number-requires c = search (rules, turn_left)
+pub returns-then-place-ge-LIMIT : goal.returns-then-place-ge-LIMIT
+returns-then-place-ge-LIMIT c = search open_full
 
-pub returns-then-place-lt-LIMIT : goal.returns-then-place-lt-LIMIT
-returns-then-place-lt-LIMIT c = search open_given
+pub number_at-requires : goal.number_at-requires
+number_at-requires c = search (rules, turn_left)
 
 pub returns : goal.returns
-returns c = search open_full
+returns c = search open_given

@@ -1,14 +1,16 @@
 -- `tables::Handles::open` meets its contract.
 -- Assumes nothing.
-use Rattle.tables.proofs.Laws.{handle_left, handle_given, handle_full}
-use borrow.Author.Rules.{rules}
+use Rattle.tables.proofs.Laws.{handle_full, handle_left, handle_opened_used, handle_given}
 use Rattle.tables.proofs.Handles.open.Goals as goal
 
-pub number_at-n-requires : goal.number_at-n-requires
-number_at-n-requires c = search (handle_left, rules)
+pub returns-then-place-ge-LIMIT : goal.returns-then-place-ge-LIMIT
+returns-then-place-ge-LIMIT c = search handle_full
 
-pub returns-then-place-lt-LIMIT : goal.returns-then-place-lt-LIMIT
-returns-then-place-lt-LIMIT c = search handle_given
+pub number_at-number-requires-clause-turn_bound : goal.number_at-number-requires-clause-turn_bound
+number_at-number-requires-clause-turn_bound c = search handle_left
+
+pub invariant_of-self : goal.invariant_of-self
+invariant_of-self c = search (handle_opened_used)
 
 pub returns : goal.returns
-returns c = search handle_full
+returns c = search handle_given

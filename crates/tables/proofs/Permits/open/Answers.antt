@@ -1,14 +1,16 @@
 -- `tables::Permits::open` meets its contract.
 -- Assumes nothing.
-use Rattle.tables.proofs.Laws.{permit_left, permit_given, permit_full}
-use borrow.Author.Rules.{rules}
+use Rattle.tables.proofs.Laws.{permit_full, permit_left, permit_opened_used, permit_opened_wiped, permit_given}
 use Rattle.tables.proofs.Permits.open.Goals as goal
 
-pub number_at-n-requires : goal.number_at-n-requires
-number_at-n-requires c = search (permit_left, rules)
+pub returns-then-place-ge-LIMIT : goal.returns-then-place-ge-LIMIT
+returns-then-place-ge-LIMIT c = search permit_full
 
-pub returns-then-place-lt-LIMIT : goal.returns-then-place-lt-LIMIT
-returns-then-place-lt-LIMIT c = search permit_given
+pub number_at-requires-clause-turn_bound : goal.number_at-requires-clause-turn_bound
+number_at-requires-clause-turn_bound c = search permit_left
+
+pub invariant_of-self : goal.invariant_of-self
+invariant_of-self c = search (permit_opened_used, permit_opened_wiped)
 
 pub returns : goal.returns
-returns c = search permit_full
+returns c = search permit_given

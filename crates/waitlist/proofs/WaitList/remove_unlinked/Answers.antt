@@ -1,10 +1,11 @@
 -- `waitlist::WaitList::remove_unlinked` meets its contract. Still in line; detached.
 -- Assumes nothing.
+use mathlib.Core.Path.{sym, ◌∙◌}
 use Rattle.waitlist.proofs.Lines.{drop_refused, drop_done}
 use Rattle.waitlist.proofs.WaitList.remove_unlinked.Goals as goal
 
-pub returns-in-Linked : goal.returns-in-Linked
-returns-in-Linked c = search drop_refused
+pub returns-then-is_some : goal.returns-then-is_some
+returns-then-is_some c = let e = sym c.is_some.ensures ∙ c.if-is_some.true in search drop_refused
 
-pub returns-in-Detached : goal.returns-in-Detached
-returns-in-Detached c = search drop_done
+pub returns : goal.returns
+returns c = let e = sym c.is_some.ensures ∙ c.if-is_some.false in search drop_done

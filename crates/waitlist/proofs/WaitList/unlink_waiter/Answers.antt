@@ -3,8 +3,8 @@
 use Rattle.waitlist.proofs.Lines.{unlink_none, unlink_done}
 use Rattle.waitlist.proofs.WaitList.unlink_waiter.Goals as goal
 
-pub returns-in-Detached : goal.returns-in-Detached
-returns-in-Detached c = search unlink_none
+pub returns-in_default : goal.returns-in_default
+returns-in_default c = search unlink_none
 
-pub returns-in-Linked : goal.returns-in-Linked
-returns-in-Linked c = search unlink_done
+pub returns : goal.returns
+returns c = search unlink_done

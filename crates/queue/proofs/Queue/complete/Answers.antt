@@ -1,0 +1,7 @@
+-- Assumes nothing.
+use Rattle.std.proofs.Common.{rules}
+use Rattle.queue.proofs.Sending.{still_open}
+use Rattle.queue.proofs.Queue.complete.Goals as goal
+
+pub end-self-requires-clause-opened : goal.end-self-requires-clause-opened
+end-self-requires-clause-opened c = search (rules, still_open)

@@ -1,0 +1,8 @@
+-- `side::Side::polled` meets its contract: it counts as the model does.
+-- Assumes nothing.
+use Rattle.model.specs.Side as model
+use Rattle.side.specs.Meaning.{Deed}
+use Rattle.side.proofs.Side.polled.Given as goal
+
+abbrev pub ghost-count_where : goal.ghost-count_where
+ghost-count_where a = λ (op : Deed). model.polled op.stage
