@@ -1,16 +1,21 @@
--- A make's answer is a success exactly where the definition's code is that of work done. Assumes nothing.
+-- A make: its answer is a success exactly where the definition's code is that of work done, and make-u is never refused. Assumes nothing.
 use Prim.Native.Nat.{ℕ, ◌<◌, ◌≤◌}
-use mathlib.Core.Path.{◌≡◌, refl}
+use mathlib.Core.Path.{◌≡◌, refl, ap}
 use mathlib.Core.Bool.{Bool, true, false, ◌&&◌}
 use native.Mathlib.Omega.{arith}
-use Rattle.std.specs.Prelude.{[], Ok, Err, is_ok, if◌then◌else◌, leb, eqb}
+use Rattle.std.specs.Prelude.{[], Ok, Err, Some, is_ok, if◌then◌else◌, leb, eqb}
 use Rattle.model.specs.Queue.{RING, DONE, BAD_CAPACITY, Result, reply, refuse, fresh, slots, nothing}
-use Rattle.model.specs.Calls.{make}
+use Rattle.model.specs.Calls.{make, make_u, by_make_u}
+use Rattle.lines.specs.declared.Line.TheVariants as Line
 use Rattle.queue.specs.declared.Success.{Success}
 use Rattle.queue.specs.declared.Success.TheVariants.{Done, Discarded, Value, Given, Pending, Status}
 use Rattle.queue.specs.declared.Error.{Error}
 use Rattle.queue.specs.declared.Error.TheVariants.{Full, Empty, Disconnected, BadCapacity, NoHandle, Closed, InUse, NoRoom, RingFull, WrongKind}
-use Rattle.queue.specs.Answers.{Told, code_of}
+use Rattle.queue.specs.declared.Turn.{Turn}
+use Rattle.queue.specs.Meaning.{queue_of}
+use Rattle.queue.specs.Answers.{Told, code_of, ans_of}
+use Rattle.queue.specs.Promise.{Made}
+use Rattle.calls.specs.Model.{Held, Steps}
 
 ok_code : (s : Success) → code_of (Ok s) < 10
 ok_code Done = omega arith
@@ -50,3 +55,8 @@ test_is_ok n w false e = refused_is_error w e
 pub made_is_ok : (n : ℕ) (w : Told) → code_of w ≡ (make n).ans.code → eqb (make n).ans.code DONE ≡ is_ok w
 unfolding make
 made_is_ok n w e = test_is_ok n w (leb 1 n && leb n RING) e
+
+-- make-u, which is never refused
+pub unbounded_made : {h : Held} {t : Turn} → Made by_make_u t.answer t.queue → Steps h Line.MakeU (Some (queue_of t.queue)) (ans_of t.answer)
+unfolding make_u
+unbounded_made made = record { next = ap Some made.next; reply = made.answer }

@@ -1,4 +1,4 @@
--- DOCUMENT 01'S LISTING, as text: the definition's output for its fifteen lines is the document's. And the document's rules on make, on make-u, on lines
+-- THE SPECIFICATION'S LISTING, as text: the definition's output for its fifteen lines is the specification's. And its rules on make, on make-u, on lines
 -- that cannot be read, on a last line without LF and on empty input, each by an example. Assumes nothing.
 use Rattle.std.specs.Prelude.{ℕ, ◌≡◌, refl, List, [], ◌∷◌, ◌++◌}
 use Prim.Native.String.{String}

@@ -12,7 +12,7 @@ use queue::{Counts, Error, Success};
 use std::marker::Model;
 use wakes::Wakes;
 
-// An answer in numbers: its code, its field, the tokens to be woken, and the token that was let go of.
+// An answer as it is printed, in numbers: its code, its field, the tokens to be woken, and the token that was let go of.
 #[derive(Drop)]
 pub struct Reply {
     code: u32,
@@ -54,8 +54,8 @@ fn number(value: Option<u32>) -> ArrayVec<u32, 6>
     field
 }
 
-// The code of an answer.
-fn code(what: Result<Success, Error>) -> u32
+// The code of an answer: the number that is printed.
+pub(crate) fn code(what: Result<Success, Error>) -> u32
     ensures { result ≡ code_of what }
 {
     match what {
@@ -85,7 +85,7 @@ fn numbers(what: Result<Success, Error>) -> ArrayVec<u32, 6>
         Ok(Success::Discarded(n) | Success::Value(n) | Success::Given(n)) => number(Some(n)),
         Ok(Success::Status(shown)) => counts(shown),
         Err(Error::Full(value) | Error::Disconnected(value)) => number(value),
-        _ => number(None),
+        _ => ArrayVec::new(),
     }
 }
 

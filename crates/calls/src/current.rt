@@ -5,14 +5,12 @@ ghost use Rattle.lines.specs.declared.Line.TheVariants as Line;
 ghost use Rattle.queue.specs.Meaning.{queue_of, Sound};
 ghost use Rattle.calls.specs.Model.{Held, Steps};
 
-use crate::answers::Reply;
+use crate::answers::{Reply, code};
 use lines::Line;
-use queue::Queue;
+use queue::{Error, Queue};
 use std::marker::Model;
 
-// The codes of the two answers that no queue gives.
-const NO_HANDLE: u32 = 21;
-
+// The code of a line that cannot be read: no queue gives it.
 const BAD_LINE: u32 = 24;
 
 // Before the first good make there is none.
@@ -37,7 +35,7 @@ impl Current {
         Current { queue: None }
     }
 
-    // What a line does, and the answer to it. The queue is written where it stands, and not copied out and in again.
+    // What a line does, and the answer to it. The queue is written where it stands, and not copied once more beside the answer.
     #[tactic(auto, unfolding(model::specs::Calls::make_u))]
     pub(crate) fn answer(&mut self, line: Line) -> Reply
         ensures { Steps self.old line self.new result }
@@ -66,7 +64,7 @@ impl Current {
         Reply::from(turn.answer)
     }
 
-    // Any other call: of the queue, or refused where there is none.
+    // Any other call: of the queue, or refused where there is none. (The crate `station` is for hosts that lend a queue; these are three lines.)
     fn call(&mut self, call: model::Call) -> Reply
         ensures { Steps self.old (Line.Call call) self.new result }
     {
@@ -76,7 +74,7 @@ impl Current {
                 *queue = turn.queue;
                 Reply::from(turn.answer)
             }
-            None => Reply::bare(NO_HANDLE),
+            None => Reply::bare(code(Err(Error::NoHandle))),
         }
     }
 }

@@ -26,7 +26,7 @@ fn say(rt: &HostRuntime, what: &str, error: io::Error) {
     let _ = eprintln!(rt; "calls: cannot {what}: {error}");
 }
 
-// Reads once. The input's end is 0, and so is an error, which it says on standard error.
+// Reads once. The input's end is 0, and so is an error, which it says on standard error: both end the input, and nothing else sets them apart.
 fn read_some(rt: &HostRuntime, buf: &mut [u8]) -> usize
     ensures { IsPrefixLen result buf.new }
 {

@@ -12,7 +12,7 @@ use std::marker::Model;
 // The bytes that are kept of a line. One that can be read has 64 at most, so a line of 65 is bad already, whatever follows.
 const KEPT_BYTES: usize = 65;
 
-// The bytes of an answer, at most.
+// The bytes of an answer, at most. That a buffer holds them is asked of a slice, as the library's reads and writes take one.
 const LONGEST_ANSWER: usize = 1024;
 
 // The lines answered, the first bytes of the line that is being read, and the current queue.

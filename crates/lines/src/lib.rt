@@ -10,7 +10,8 @@ mod text;
 pub use names::parse;
 pub use show::print;
 
-// What a line says: nothing that can be read, a make with its capacity, a make-u, or another call with its numbers.
+// What a line says: nothing that can be read (a case like the others, since it is answered as they are), a make with its capacity, a make-u, or
+// another call with its numbers.
 #[derive(Clone, Copy)]
 pub enum Line {
     Bad,
@@ -19,8 +20,8 @@ pub enum Line {
     Call(model::Call),
 }
 
-// An answer to be shown: its code, the numbers of its field, the tokens to be woken, and the token that was let go of. The two lists are
-// no longer than the queue's can be, and so the text fits in 1,024 bytes.
+// An answer to be shown: its code, which is printed as a number, the numbers of its field, the tokens to be woken, and the token that was let go
+// of. The two lists are no longer than the queue's can be, and so the text fits in 1,024 bytes.
 #[derive(Clone, Copy)]
 pub struct Answer<'a> {
     pub code: u32,

@@ -61,7 +61,7 @@ fn with_two(name: &str, number: u32, other: u32) -> Line
     }
 }
 
-// What the words of a line say, or nothing where a number cannot be read.
+// What the words of a line say, or nothing where a number cannot be read: `parse` makes that a bad line too.
 fn said(text: &str) -> Option<Line>
     ensures { unwrap_or result Line.Bad ≡ Rows·said (words text.now) }
 {

@@ -9,7 +9,7 @@ use itoa::Buffer;
 // The code of an answer that shows counts.
 const STATUS: u32 = 4;
 
-// A lent buffer, and where the text in it ends.
+// A lent buffer, and where the text in it ends. No `Write`: its writes may fail, and here everything fits.
 #[derive(Drop)]
 struct Output<'a> {
     buffer: &'a mut [u8],
@@ -76,7 +76,7 @@ impl Output<'_> {
     }
 }
 
-// Puts the line that shows an answer behind what `out` holds up to `at`: 1,024 bytes at most.
+// Puts the line that shows an answer behind what `out` holds up to `at`: 1,024 bytes at most. The caller keeps the buffer, so the two come apart here.
 pub fn print(out: &mut [u8], at: usize, line: u64, answer: Answer) -> usize
     requires { at + 1024 ≤ length out.old }
     ensures put { Put out.old out.new at result (shown line (told answer.entry)) }

@@ -12,7 +12,7 @@ pub(crate) fn number(word: &str) -> Option<u32>
         return None;
     }
     if word.starts_with('0') {
-        return if word.len() == 1 { Some(0) } else { None };
+        return (word.len() == 1).then_some(0);
     }
     word.parse().ok()
 }

@@ -24,7 +24,7 @@ use Rattle.queue.specs.Meaning.{queue_of, Sound}
 use Rattle.queue.specs.Answers.{code_of, field_of}
 use Rattle.queue.specs.Promise.{Turned}
 use Rattle.queue.specs.Steps.{Says, number_told, Does, live_by, live_in, cloned, put_given, ClonesIn, closable, ClosesIn, silenced, discarded}
-use Rattle.queue.proofs.Settled.{does, gives, moves, decided, refuses, follows, on_the_way, with_senders, with_receivers, shaped_senders, shaped_receivers, none_left, some_left}
+use Rattle.queue.proofs.Settled.{does, gives, moves, decided, refuses, follows, on_the_way, with_senders, with_receivers, none_left, some_left}
 
 -- ---- clone_s, clone_r: of either table, which `set` puts into the queue
 module _ (q : model.Queue) (set : Table model.Mark → model.Queue) (t : Table model.Mark) (e : set t ≡ q) where
@@ -48,7 +48,6 @@ module _ (q : Queue) (snd : Sound q) (s : ℕ) (r : Result ℕ Error) (h : Handl
   clone_s_turn k =
       gives q (CloneS s) r a (with_senders h q) snd
       (record {
-        shaped = shaped_senders q snd.shaped h;
         is = cloned_is (queue_of q) (λ x. model.set_senders x (queue_of q)) (handles_of q.senders) refl s r (handles_of h) k.number k.table;
         same = same_err r k.same;
       }) u
@@ -62,7 +61,6 @@ module _ (q : Queue) (snd : Sound q) (s : ℕ) (r : Result ℕ Error) (h : Handl
   clone_r_turn k =
       gives q (CloneR s) r a (with_receivers h q) snd
       (record {
-        shaped = shaped_receivers q snd.shaped h;
         is = cloned_is (queue_of q) (λ x. model.set_receivers x (queue_of q)) (handles_of q.receivers) refl s r (handles_of h) k.number k.table;
         same = same_err r k.same;
       }) u
@@ -99,7 +97,7 @@ module _ (q : Queue) (snd : Sound q) (s : ℕ) (a : Answer) (busy : Bool) where
     asked_s r f = sym f ∙ ap (closable (live_in (handles_of q.senders) s)) g
 
     pub drop_s_refused : (e : Error) → ClosesIn q.senders s busy (Err e) → Says (Err e) [] [] a → Turned q (DropS s) a q
-    drop_s_refused e f u = does q (DropS s) a q snd (refuses _ _ q _ (drop_s_is s (queue_of q)) e a (asked_s (Err e) f) snd.shaped u)
+    drop_s_refused e f u = does q (DropS s) a q snd (refuses _ _ q _ (drop_s_is s (queue_of q)) e a (asked_s (Err e) f) u)
 
     module _ (h : Handles) (k : ClosesIn q.senders s busy (Ok h)) (n : ℕ) (f : n ≡ live (handles_of h)) where
       left_s : queue_of (with_senders h q) ≡ model.set_senders (clear (handles_of q.senders) s) (queue_of q)
@@ -118,7 +116,7 @@ module _ (q : Queue) (snd : Sound q) (s : ℕ) (a : Answer) (busy : Bool) where
       pub drop_s_other : (n ≡ 0 → ⊥) → Says (Ok Done) [] [] a → Turned q (DropS s) a (with_senders h q)
       drop_s_other z u =
           does q (DropS s) a (with_senders h q) snd
-          (moves _ q (Ok Done) a [] [] (with_senders h q) (shaped_senders q snd.shaped h) u refl
+          (moves _ q (Ok Done) a [] [] (with_senders h q) u refl
           (sym (ap (λ (b : Bool). if b then silenced (queue_of (with_senders h q)) else model.reply model.DONE [] [] [] (queue_of (with_senders h q))) (some_left (handles_of h) n f z)) ∙ follows_s))
 
   module _ (g : busy ≡ model.receiver_busy s (queue_of q)) where
@@ -126,7 +124,7 @@ module _ (q : Queue) (snd : Sound q) (s : ℕ) (a : Answer) (busy : Bool) where
     asked_r r f = sym f ∙ ap (closable (live_in (handles_of q.receivers) s)) g
 
     pub drop_r_refused : (e : Error) → ClosesIn q.receivers s busy (Err e) → Says (Err e) [] [] a → Turned q (DropR s) a q
-    drop_r_refused e f u = does q (DropR s) a q snd (refuses _ _ q _ (drop_r_is s (queue_of q)) e a (asked_r (Err e) f) snd.shaped u)
+    drop_r_refused e f u = does q (DropR s) a q snd (refuses _ _ q _ (drop_r_is s (queue_of q)) e a (asked_r (Err e) f) u)
 
     module _ (h : Handles) (k : ClosesIn q.receivers s busy (Ok h)) (n : ℕ) (f : n ≡ live (handles_of h)) where
       left_r : queue_of (with_receivers h q) ≡ model.set_receivers (clear (handles_of q.receivers) s) (queue_of q)
@@ -145,7 +143,7 @@ module _ (q : Queue) (snd : Sound q) (s : ℕ) (a : Answer) (busy : Bool) where
       pub drop_r_other : (n ≡ 0 → ⊥) → Says (Ok (Discarded 0)) [] [] a → Turned q (DropR s) a (with_receivers h q)
       drop_r_other z u =
           does q (DropR s) a (with_receivers h q) snd
-          (moves _ q (Ok (Discarded 0)) a [] [] (with_receivers h q) (shaped_receivers q snd.shaped h) u refl
+          (moves _ q (Ok (Discarded 0)) a [] [] (with_receivers h q) u refl
           (sym (ap (λ (b : Bool). if b then discarded (queue_of (with_receivers h q)) else model.reply model.DONE (0 ∷ []) [] [] (queue_of (with_receivers h q))) (some_left (handles_of h) n f z)) ∙ follows_r))
 
 -- ---- discard, counts, status

@@ -1,4 +1,5 @@
 pub mod Settled
+pub mod Refused
 pub mod Making
 pub mod Sending
 pub mod Handing

@@ -23,10 +23,10 @@ use Rattle.queue.specs.declared.Error.{Error}
 use Rattle.queue.specs.declared.Error.TheVariants.{Disconnected}
 use Rattle.queue.specs.declared.Success.TheVariants.{Done, Value, Pending}
 use Rattle.queue.specs.declared.Answer.{Answer}
-use Rattle.queue.specs.Meaning.{queue_of, Shaped, Sound}
+use Rattle.queue.specs.Meaning.{queue_of, Sound}
 use Rattle.queue.specs.Promise.{Turned}
 use Rattle.queue.specs.Steps.{token_of, Says, Does, Moves, live_by, Finds, takable, takable_of, receivable, receivable_of, popped, passes}
-use Rattle.queue.proofs.Settled.{does, moves, decided, refuses, follows, done, with_ins, shaped_ins}
+use Rattle.queue.proofs.Settled.{does, moves, decided, refuses, follows, done, with_ins}
 
 -- ---- try_recv
 -- what follows where a value is told
@@ -58,12 +58,12 @@ try_recv_is r q =
 
 module _ (q : Queue) (snd : Sound q) (r : ℕ) (a : Answer) where
   pub try_recv_refused : (e : Error) → Err e ≡ receivable r (queue_of q) → Says (Err e) [] [] a → Turned q (TryRecv r) a q
-  try_recv_refused e h u = does q (TryRecv r) a q snd (refuses (took (queue_of q)) (receivable r (queue_of q)) q _ (try_recv_is r (queue_of q)) e a h snd.shaped u)
+  try_recv_refused e h u = does q (TryRecv r) a q snd (refuses (took (queue_of q)) (receivable r (queue_of q)) q _ (try_recv_is r (queue_of q)) e a h u)
 
   pub try_recv_took : (v : ℕ) (woken : Option Woken) (q' : Queue) → Ok v ≡ receivable r (queue_of q) → Moves (popped (queue_of q)) q' woken → Says (Ok (Value v)) (token_of woken) [] a → Turned q (TryRecv r) a q'
   try_recv_took v woken q' h m u =
       does q (TryRecv r) a q' snd
-      (moves (step (TryRecv r) (queue_of q)) q (Ok (Value v)) a (token_of woken) [] q' m.shaped u refl
+      (moves (step (TryRecv r) (queue_of q)) q (Ok (Value v)) a (token_of woken) [] q' u refl
       (ap₂ (λ (w : List ℕ) (x : model.Queue). model.reply model.VALUE (v ∷ []) w [] x) m.wakes m.next ∙ follows (took (queue_of q)) (receivable r (queue_of q)) q _ (try_recv_is r (queue_of q)) v h))
 
 -- ---- what is told of the values
@@ -84,12 +84,12 @@ told_gone [] false e h = let z : ◌≡◌ {A = ℕ} 0 1 = cc in absurd (omega a
 told_gone (x ∷ l) gone e h = let z : ◌≡◌ {A = ℕ} 0 1 = cc in absurd (omega arith)
 
 -- ---- poll_in
-module _ (q : Queue) (s : Shaped q) (n t : ℕ) (op : Entry) (f : Finds q.ins n (Ok op)) (a : Answer) where
+module _ (q : Queue) (n t : ℕ) (op : Entry) (f : Finds q.ins n (Ok op)) (a : Answer) where
   pub polled_pending : (o : Pended) → Ok None ≡ takable (queue_of q) → Pends q.ins n t o → Says (Ok Pending) [] (option_to_list o.retired) a → Does (step (PollIn n t) (queue_of q)) q a (with_ins o.side q)
   unfolding step
   polled_pending o h k u =
       let g = told_empty (ring.values q.values) (model.no_sender (queue_of q)) h in
-      moves (step (PollIn n t) (queue_of q)) q (Ok Pending) a [] (option_to_list o.retired) (with_ins o.side q) (shaped_ins q s o.side k.sound) u refl
+      moves (step (PollIn n t) (queue_of q)) q (Ok Pending) a [] (option_to_list o.retired) (with_ins o.side q) u refl
       (ap₂ (λ (l : List ℕ) (i : side.Side model.Job). model.reply model.PENDING [] [] l (model.set_ins i (queue_of q))) (k.retired (deed_of op) f) (k.side (deed_of op) f)
       ∙ sym (poll_in_pending n t (queue_of q) (deed_of op) f g.0 g.1))
 
@@ -98,7 +98,7 @@ module _ (q : Queue) (s : Shaped q) (n t : ℕ) (op : Entry) (f : Finds q.ins n 
     unfolding step
     polled_gone e h u =
         let g = told_gone (ring.values q.values) (model.no_sender (queue_of q)) e h in
-        moves (step (PollIn n t) (queue_of q)) q (Err (Disconnected None)) a [] (option_to_list kept) (with_ins o q) (shaped_ins q s o k.sound)
+        moves (step (PollIn n t) (queue_of q)) q (Err (Disconnected None)) a [] (option_to_list kept) (with_ins o q)
         (subst (λ (x : Error). Says (Err x) [] (option_to_list kept) a) (sym g.2) u) refl
         (ap₂ (λ (l : List ℕ) (i : side.Side model.Job). model.reply model.DISCONNECTED [] [] l (model.set_ins i (queue_of q))) y k.side
         ∙ sym (poll_in_gone n t (queue_of q) (deed_of op) f g.0 g.1))
@@ -107,7 +107,7 @@ module _ (q : Queue) (s : Shaped q) (n t : ℕ) (op : Entry) (f : Finds q.ins n 
         → Does (step (PollIn n t) (queue_of q)) q a q'
     unfolding step
     polled_value v woken q' h m u =
-        moves (step (PollIn n t) (queue_of q)) q (Ok (Value v)) a (token_of woken) (option_to_list kept) q' m.shaped u refl
+        moves (step (PollIn n t) (queue_of q)) q (Ok (Value v)) a (token_of woken) (option_to_list kept) q' u refl
         (ap₂ (λ (w : List ℕ) (x : model.Queue). model.reply model.VALUE (v ∷ []) w (option_to_list kept) x) m.wakes m.next
         ∙ (ap₂ (λ (l : List ℕ) (i : side.Side model.Job). let mv = popped (model.set_ins i (queue_of q)) in model.reply model.VALUE (v ∷ []) mv.wakes l mv.next) y k.side
         ∙ sym (poll_in_value n t (queue_of q) (deed_of op) v (ring.rest (ring.values q.values)) f (told_value (ring.values q.values) (model.no_sender (queue_of q)) v h))))
@@ -127,5 +127,5 @@ module _ (q : Queue) (snd : Sound q) (n : ℕ) (a : Answer) where
     unfolding step
     cancel_in_ended kept d y u =
         does q (CancelIn n) a (with_ins o q) snd
-        (moves (step (CancelIn n) (queue_of q)) q (Ok Done) a [] (option_to_list kept) (with_ins o q) (shaped_ins q snd.shaped o k.sound) u refl
+        (moves (step (CancelIn n) (queue_of q)) q (Ok Done) a [] (option_to_list kept) (with_ins o q) u refl
         (ap₂ (λ (l : List ℕ) (i : side.Side model.Job). model.reply model.DONE [] [] l (model.set_ins i (queue_of q))) y k.side ∙ sym (cancel_in_other n (queue_of q) (deed_of op) f (sym h ∙ d))))

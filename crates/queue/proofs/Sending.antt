@@ -23,6 +23,7 @@ use Rattle.model.specs.Side as side
 use Rattle.model.specs.Queue as model
 use Rattle.model.specs.declared.Call.TheVariants.{TrySend, PollOut, CancelOut, PermitSend, PermitDrop}
 use Rattle.model.specs.Calls.{step, try_send, cancel_out, permit_send, permit_drop}
+use Rattle.model.proofs.Steps.{and_right}
 use Rattle.model.proofs.TableLaws.{is_live_lem, of_le}
 use Rattle.model.proofs.Leaves.{poll_out_pending}
 use Rattle.queue.specs.declared.Queue.{Queue}
@@ -30,11 +31,11 @@ use Rattle.queue.specs.declared.Error.{Error}
 use Rattle.queue.specs.declared.Error.TheVariants.{Disconnected}
 use Rattle.queue.specs.declared.Success.TheVariants.{Done, Pending}
 use Rattle.queue.specs.declared.Answer.{Answer}
-use Rattle.queue.specs.Meaning.{room_of, queue_of, Shaped, Sound}
+use Rattle.queue.specs.Meaning.{room_of, queue_of, Sound}
 use Rattle.queue.specs.Promise.{Turned}
 use Rattle.queue.specs.Steps.{token_of, Says, Does, Moves, live_by, live_in, Finds, tried, sendable, GivesPermit, cancelled, ready}
 use Rattle.queue.proofs.Settled.{kept, does, moves, decided, need_is, refuses, follows, on_the_way, done, slot_left, reserved_counted}
-use Rattle.queue.proofs.Settled.{with_available, with_permits, with_outs, shaped_permits, shaped_outs, none_left, some_left}
+use Rattle.queue.proofs.Settled.{with_available, with_permits, with_outs, none_left, some_left}
 
 -- ---- where a send finds a slot
 passed : (c : Option ℕ) (l : Result (Unit {0}) Error) (gone full many : Bool) (u : Unit {0}) → Ok u ≡ tried c l gone full many → (gone ≡ false) × (full ≡ false) × (many ≡ false)
@@ -84,7 +85,7 @@ try_send_is s v q = by (lookup q.senders s) (was_closed q.senders s) (model.no_r
 
 module _ (q : Queue) (snd : Sound q) (s v : ℕ) (a : Answer) where
   pub try_send_refused : (e : Error) → Err e ≡ sendable (Some v) s (queue_of q) → Says (Err e) [] [] a → Turned q (TrySend s v) a q
-  try_send_refused e h u = does q (TrySend s v) a q snd (refuses _ _ q _ (try_send_is s v (queue_of q)) e a h snd.shaped u)
+  try_send_refused e h u = does q (TrySend s v) a q snd (refuses _ _ q _ (try_send_is s v (queue_of q)) e a h u)
 
   pub try_send_sent : (k : Unit {0}) (left : Option ℕ) (woken : Option Woken) (q' : Queue) → Ok k ≡ sendable (Some v) s (queue_of q) → room_of left ≡ model.recount (λ n. n - 1) (room_of q.available)
       → Moves (model.push v (queue_of (with_available left q))) q' woken → Says (Ok Done) (token_of woken) [] a → Turned q (TrySend s v) a q'
@@ -117,10 +118,6 @@ module _ (q : Queue) (snd : Sound q) (n : ℕ) (op : Entry) (f : Finds q.outs n 
       omega (arith, c, w, v, i.account.room p, i.sizes.capacity)
 
   -- an open operation, so slots are counted, and where it is ready one is free
-  and_right : (a b : Bool) → (a && b) ≡ true → b ≡ true
-  and_right true b e = e
-  and_right false b e = let y : ◌≡◌ {A = ℕ} 0 1 = cc in absurd (omega arith)
-
   pub ready_free : (b : Bool) → b ≡ ready (stage_of op.stage) (room_of q.available) → b ≡ true → model.none_of (room_of q.available) ≡ false
   ready_free b h y = not-true (model.none_of (room_of q.available)) (and_right (eqb (side.waits (stage_of op.stage)) 0) (not (model.none_of (room_of q.available))) (sym h ∙ y))
 
@@ -130,7 +127,7 @@ module _ (q : Queue) (snd : Sound q) (n : ℕ) (op : Entry) (f : Finds q.outs n 
       let p : 0 < live (handles_of q.receivers) = omega arith in
       omega (arith, slot_left q snd (reserved_counted q snd n (deed_of op) f) (ready_free b h y), i.account.room p, i.sizes.capacity)
 
-module _ (q : Queue) (sh : Shaped q) (n t : ℕ) (op : Entry) (f : Finds q.outs n (Ok op)) (k : ℕ) (g : k ≡ live (handles_of q.receivers)) (a : Answer) where
+module _ (q : Queue) (n t : ℕ) (op : Entry) (f : Finds q.outs n (Ok op)) (k : ℕ) (g : k ≡ live (handles_of q.receivers)) (a : Answer) where
   module _ (z : k ≡ 0 → ⊥) (b : Bool) (h : b ≡ eqb (side.is_called (stage_of op.stage)) 1) where
     left : model.no_receiver (queue_of q) ≡ false
     left = some_left (handles_of q.receivers) k g z
@@ -139,7 +136,7 @@ module _ (q : Queue) (sh : Shaped q) (n t : ℕ) (op : Entry) (f : Finds q.outs 
       pub polled_pending : (o : Pended) → b2 ≡ false → Pends q.outs n t o → Says (Ok Pending) [] (option_to_list o.retired) a → Does (step (PollOut n t) (queue_of q)) q a (with_outs o.side q)
       unfolding step
       polled_pending o e x u =
-          moves _ q (Ok Pending) a [] (option_to_list o.retired) (with_outs o.side q) (shaped_outs q sh o.side x.sound) u refl
+          moves _ q (Ok Pending) a [] (option_to_list o.retired) (with_outs o.side q) u refl
           (ap₂ (λ (l : List ℕ) (y : side.Side model.Job). model.reply model.PENDING [] [] l (model.set_outs y (queue_of q))) (x.retired (deed_of op) f) (x.side (deed_of op) f)
           ∙ sym (poll_out_pending n t (queue_of q) (deed_of op) f left (sym h ∙ y) (sym j ∙ e)))
 
@@ -198,7 +195,7 @@ module _ (q : Queue) (snd : Sound q) (p : ℕ) (a : Answer) where
       pub permit_gone : n ≡ 0 → Says (Err (Disconnected (Some v))) [] [] a → Turned q (PermitSend p v) a (with_permits t q)
       permit_gone z u =
           does q (PermitSend p v) a (with_permits t q) snd
-          (moves _ q (Err (Disconnected (Some v))) a [] [] (with_permits t q) (shaped_permits q snd.shaped t) u refl
+          (moves _ q (Err (Disconnected (Some v))) a [] [] (with_permits t q) u refl
           (sym (ap (λ (b : Bool). if b then model.reply model.DISCONNECTED (v ∷ []) [] [] (queue_of (with_permits t q)) else model.done_by (model.push v (queue_of (with_permits t q)))) (none_left (handles_of q.receivers) n f z)) ∙ sends))
 
       pub permit_sent : (woken : Option Woken) (q' : Queue) → (n ≡ 0 → ⊥) → Moves (model.push v (queue_of (with_permits t q))) q' woken → Says (Ok Done) (token_of woken) [] a → Turned q (PermitSend p v) a q'

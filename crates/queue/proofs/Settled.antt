@@ -12,7 +12,7 @@ use Rattle.tables.specs.declared.Permits.{Permits}
 use Rattle.side.specs.declared.Side.{Side}
 use Rattle.side.specs.Meaning.{Deed, side_of}
 use Rattle.side.specs.declared.Woken.{Woken}
-use Rattle.side.specs.Sound as side
+use Rattle.side.proofs.Kept.{sound_of}
 use Rattle.model.specs.Table.{Table, lookup, live}
 use Rattle.model.specs.Queue as model
 use Rattle.model.specs.declared.Call.{Call}
@@ -29,6 +29,10 @@ use Rattle.queue.specs.Answers.{Told, code_of, field_of}
 use Rattle.queue.specs.Promise.{Turned}
 use Rattle.queue.specs.Steps.{Small, token_of, Says, told, number_told, Does, Gives, Moves, live_by}
 
+-- ---- every queue's sides are sound
+pub shaped_of : (q : Queue) → Shaped q
+shaped_of q = record { outs = sound_of q.outs; ins = sound_of q.ins }
+
 -- ---- one more call
 after_more : (cs : List Call) (c : Call) (q : model.Queue) → after (cs ++ (c ∷ [])) q ≡ (step c (after cs q)).next
 unfolding after
@@ -44,7 +48,7 @@ pub does : (q : Queue) (c : Call) (a : Answer) (q' : Queue) → Sound q → Does
 does q c a q' s d =
     record {
       sound = record {
-        shaped = d.shaped;
+        shaped = shaped_of q';
         came = record {
           begun = s.came.begun;
           calls = s.came.calls ++ (c ∷ []);
@@ -60,33 +64,31 @@ does q c a q' s d =
 
 -- ---- what was said, beside a queue: an answer that is no refusal; the queue as it came in
 module _ (want : model.Result) (q : Queue) (what : Told) (a : Answer) where
-  pub moves : (w t : List ℕ) (q' : Queue) → Shaped q' → Says what w t a → ltb (code_of what) 20 ≡ true → told what w t q' ≡ want → Does want q a q'
-  moves w t q' k u b e =
+  pub moves : (w t : List ℕ) (q' : Queue) → Says what w t a → ltb (code_of what) 20 ≡ true → told what w t q' ≡ want → Does want q a q'
+  moves w t q' u b e =
       record {
-        shaped = k;
         is = ap (λ (x : model.Ans). record { ans = x; next = queue_of q' }) u.is ∙ e;
         same = λ h. absurd (omega (arith, h, ap (λ (x : model.Ans). x.code) u.is, ltb-true (code_of what) 20 b));
       }
 
-  pub stays : Shaped q → Says what [] [] a → told what [] [] q ≡ want → Does want q a q
-  stays k u e = record { shaped = k; is = ap (λ (x : model.Ans). record { ans = x; next = queue_of q }) u.is ∙ e; same = λ h. refl }
+  pub stays : Says what [] [] a → told what [] [] q ≡ want → Does want q a q
+  stays u e = record { is = ap (λ (x : model.Ans). record { ans = x; next = queue_of q }) u.is ∙ e; same = λ h. refl }
 
 -- a step of a queue on the way ended the call, and it refuses nothing
 module _ (q : Queue) (q₁ : Queue) (want : model.Result) (a : Answer) (q' : Queue) where
   pub on_the_way : ltb want.ans.code 20 ≡ true → Does want q₁ a q' → Does want q a q'
   on_the_way b d =
       record {
-        shaped = d.shaped;
         is = d.is;
         same = λ h. absurd (omega (arith, h, ap (λ (x : model.Result). x.ans.code) d.is, ltb-true want.ans.code 20 b));
       }
 
 -- ---- the number of a new record, or why there is none
 pub given_does : (want : model.Result) (q : Queue) (number : Result ℕ Error) (a : Answer) (q' : Queue) → Gives want q number q' → Says (number_told number) [] [] a → Does want q a q'
-given_does want q (Ok n) a q' g u = moves want q (Ok (Given n)) a [] [] q' g.shaped u refl g.is
+given_does want q (Ok n) a q' g u = moves want q (Ok (Given n)) a [] [] q' u refl g.is
 given_does want q (Err e) a q' g u =
     subst (λ (x : Queue). Does want q a x) (sym g.same)
-    (stays want q (Err e) a (subst Shaped g.same g.shaped) u (subst (λ (x : Queue). told (Err e) [] [] x ≡ want) g.same g.is))
+    (stays want q (Err e) a u (subst (λ (x : Queue). told (Err e) [] [] x ≡ want) g.same g.is))
 
 pub gives : (q : Queue) (c : Call) (number : Result ℕ Error) (a : Answer) (q' : Queue) → Sound q → Gives (step c (queue_of q)) q number q' → Says (number_told number) [] [] a → Turned q c a q'
 gives q c number a q' s g u = does q c a q' s (given_does (step c (queue_of q)) q number a q' g u)
@@ -104,8 +106,8 @@ need_is go None false q = refl
 need_is go (Some a) closed q = refl
 
 module _ {X : Type 0} (go : X → model.Result) (r : Result X Error) (q : Queue) (want : model.Result) (d : decided go r (queue_of q) ≡ want) where
-  pub refuses : (e : Error) (a : Answer) → Err e ≡ r → Shaped q → Says (Err e) [] [] a → Does want q a q
-  refuses e a h s u = stays want q (Err e) a s u (ap (λ (x : Result X Error). decided go x (queue_of q)) h ∙ d)
+  pub refuses : (e : Error) (a : Answer) → Err e ≡ r → Says (Err e) [] [] a → Does want q a q
+  refuses e a h u = stays want q (Err e) a u (ap (λ (x : Result X Error). decided go x (queue_of q)) h ∙ d)
 
   pub follows : (x : X) → Ok x ≡ r → go x ≡ want
   follows x h = ap (λ (x : Result X Error). decided go x (queue_of q)) h ∙ d
@@ -113,10 +115,10 @@ module _ {X : Type 0} (go : X → model.Result) (r : Result X Error) (q : Queue)
 -- ---- a move that ended a call with Done
 pub done : (want : model.Moved) (q : Queue) (woken : Option Woken) (a : Answer) (q' : Queue) → Moves want q' woken → Says (Ok Done) (token_of woken) [] a → Does (model.done_by want) q a q'
 done want q woken a q' m u =
-    moves (model.done_by want) q (Ok Done) a (token_of woken) [] q' m.shaped u refl
+    moves (model.done_by want) q (Ok Done) a (token_of woken) [] q' u refl
     (ap₂ (λ (w : List ℕ) (x : model.Queue). model.reply model.DONE [] w [] x) m.wakes m.next)
 
--- ---- the queue with one part replaced, and that its parts stay sound
+-- ---- the queue with one part replaced
 abbrev pub with_available : Option ℕ → Queue → Queue
 with_available x q = record { capacity = q.capacity; values = q.values; available = x; senders = q.senders; receivers = q.receivers; permits = q.permits; outs = q.outs; ins = q.ins }
 
@@ -134,22 +136,6 @@ with_outs x q = record { capacity = q.capacity; values = q.values; available = q
 
 abbrev pub with_ins : Side → Queue → Queue
 with_ins x q = record { capacity = q.capacity; values = q.values; available = q.available; senders = q.senders; receivers = q.receivers; permits = q.permits; outs = q.outs; ins = x }
-
-module _ (q : Queue) (s : Shaped q) where
-  pub shaped_senders : (x : Handles) → Shaped (with_senders x q)
-  shaped_senders x = record { outs = s.outs; ins = s.ins }
-
-  pub shaped_receivers : (x : Handles) → Shaped (with_receivers x q)
-  shaped_receivers x = record { outs = s.outs; ins = s.ins }
-
-  pub shaped_permits : (x : Permits) → Shaped (with_permits x q)
-  shaped_permits x = record { outs = s.outs; ins = s.ins }
-
-  pub shaped_outs : (x : Side) → side.Sound x → Shaped (with_outs x q)
-  shaped_outs x h = record { outs = h; ins = s.ins }
-
-  pub shaped_ins : (x : Side) → side.Sound x → Shaped (with_ins x q)
-  shaped_ins x h = record { outs = s.outs; ins = h }
 
 -- ---- what a count and a test tell
 module _ {A : Type 0} (t : Table A) (n : ℕ) (e : n ≡ live t) where

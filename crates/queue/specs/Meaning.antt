@@ -26,7 +26,7 @@ queue_of q = record {
   permits = permits_of q.permits;
 }
 
--- each side is sound: kept within a call too. (What the ring and the tables keep, their types say.)
+-- each side is sound, which its type says, as the types of the ring and of the tables do what those keep: `shaped_of` (proofs/Settled.antt)
 pub record Shaped (q : Queue) : Type 0 where
   pub outs : side.Sound q.outs
   pub ins : side.Sound q.ins

@@ -21,7 +21,7 @@ use Rattle.queue.specs.declared.Error.{Error}
 use Rattle.queue.specs.declared.Error.TheVariants.{Full, Empty, Disconnected, NoHandle, Closed, InUse, NoRoom, RingFull, WrongKind}
 use Rattle.queue.specs.declared.Answer.{Answer}
 use Rattle.queue.specs.declared.Turn.{Turn}
-use Rattle.queue.specs.Meaning.{room_of, queue_of, Shaped}
+use Rattle.queue.specs.Meaning.{room_of, queue_of}
 use Rattle.queue.specs.Answers.{Told, code_of, field_of, ans_of, result_of}
 
 -- ---- answers
@@ -45,19 +45,16 @@ told what wakes retired q = model.reply (code_of what) (field_of what) wakes ret
 -- ---- what a step leaves of the queue q
 -- an answer and a queue that are the definition's `want`; a refusal leaves q itself
 pub record Does (want : model.Result) (q : Queue) (a : Answer) (q' : Queue) : Type 0 where
-  pub shaped : Shaped q'
   pub is : result_of a q' ≡ want
   pub same : 20 ≤ code_of a.what → q' ≡ q
 
 -- the number of a new record and a queue that are the definition's `want`; an error leaves q itself
 pub record Gives (want : model.Result) (q : Queue) (number : Result ℕ Error) (q' : Queue) : Type 0 where
-  pub shaped : Shaped q'
   pub is : told (number_told number) [] [] q' ≡ want
   pub same : OnErr number (q' ≡ q)
 
 -- a move of the definition, with the operation that it called
 pub record Moves (want : model.Moved) (q' : Queue) (woken : Option Woken) : Type 0 where
-  pub shaped : Shaped q'
   pub next : queue_of q' ≡ want.next
   pub wakes : token_of woken ≡ want.wakes
 
@@ -81,8 +78,8 @@ Finds s n (Err e) = (lookup (side_of s).ops n ≡ None) × (e ≡ dead_by (was_c
 -- ---- handles
 -- a handle that passed or failed this test is cloned: the number of the new one
 abbrev pub cloned : Result (Unit {0}) Error → Option ℕ → Result ℕ Error
-cloned (Ok known) lowest = ok_or lowest NoRoom
-cloned (Err e) lowest = Err e
+cloned (Ok known) next = ok_or next NoRoom
+cloned (Err e) next = Err e
 
 abbrev pub put_given : {A : Type 0} → Result ℕ Error → A → Table A → Table A
 put_given (Ok n) a t = put t n a
@@ -158,15 +155,14 @@ sendable c s q = tried c (live_in q.senders s) (model.no_receiver q) (model.no_f
 
 -- and tries to reserve: on an unbounded queue nothing can be reserved
 abbrev pub counted_by : Result (Unit {0}) Error → Bool → Result (Unit {0}) Error
-counted_by (Ok known) unbounded = if unbounded then Err WrongKind else Ok tt
-counted_by (Err e) unbounded = Err e
+counted_by (Ok known) without_count = if without_count then Err WrongKind else Ok tt
+counted_by (Err e) without_count = Err e
 
 unfoldable pub counted : ℕ → model.Queue → Result (Unit {0}) Error
 counted s q = counted_by (live_in q.senders s) (model.is_unbounded q)
 
 -- a permit of the sender s is given, if a number is left for one, and then this is the free room
 pub record GivesPermit (q : Queue) (s : ℕ) (left : Option ℕ) (r : Result ℕ Error) (q' : Queue) : Type 0 where
-  pub shaped : Shaped q'
   pub number : r ≡ ok_or (lowest (permits_of q.permits)) NoRoom
   pub given : (n : ℕ) → r ≡ Ok n → queue_of q' ≡ model.set_permits (put (permits_of q.permits) n s) (model.set_free (room_of left) (queue_of q))
   pub same : OnErr r (q' ≡ q)
@@ -195,7 +191,6 @@ pub record Counted (q : Queue) (r : Counts) : Type 0 where
 
 -- ---- a queue with nothing in it, and these handles on both sides
 pub record Blank (c : ℕ) (f : Option ℕ) (h : Handles) (r : Queue) : Type 0 where
-  pub shaped : Shaped r
   pub is : queue_of r ≡ record {
     cap = c;
     values = [];
@@ -209,5 +204,4 @@ pub record Blank (c : ℕ) (f : Option ℕ) (h : Handles) (r : Queue) : Type 0 w
 
 -- an answer Done beside a fresh queue of a capacity and a free room
 pub record Begun (c : ℕ) (f : Option ℕ) (r : Turn) : Type 0 where
-  pub shaped : Shaped r.queue
   pub is : result_of r.answer r.queue ≡ model.reply model.DONE [] [] [] (model.fresh c (room_of f))

@@ -1,9 +1,10 @@
 // Senders and receivers come and go: `Clone` and `Drop` of the handles, and drop_sender and drop_receiver. After src/mpmc/bounded.rs,
-// src/mpmc/unbounded.rs and src/mpmc/queue.rs of asyncband 0.7.4.
+// src/mpmc/unbounded.rs and src/mpmc/queue.rs of asyncband 0.7.4. The calls of the two kinds differ in the table, in what keeps a handle busy and in what
+// its last one leaves; what they share is `cloned` and `closed`.
 ghost use Rattle.std.specs.Prelude.{◌≡◌};
 ghost use Rattle.model.specs.Queue as model;
 ghost use Rattle.model.specs.declared.Call.TheVariants.{CloneS, CloneR, DropS, DropR};
-ghost use Rattle.queue.specs.Meaning.{queue_of, Shaped, Sound};
+ghost use Rattle.queue.specs.Meaning.{queue_of, Sound};
 ghost use Rattle.queue.specs.Promise.{Turned};
 ghost use Rattle.queue.specs.Steps.{ClonesIn, ClosesIn, Does, silenced, discarded};
 
@@ -22,7 +23,7 @@ fn cloned(handles: &mut Handles, n: u32) -> Result<u32, Error>
     taken(handles, opened)
 }
 
-// The handles without the live handle n, which may still have a record of its own that is open.
+// The handles without the live handle n; refused while it is busy, that is, while a record of its own is open.
 fn closed(handles: Handles, n: u32, busy: bool) -> Result<Handles, Error>
     ensures { ClosesIn handles n busy result }
 {
@@ -58,7 +59,6 @@ impl Queue {
 
     // Has this sender a live permit or an outgoing operation?
     fn sender_busy(self, n: u32) -> bool
-        requires { Shaped self }
         ensures { result ≡ model.sender_busy n (queue_of self) }
     {
         0 < self.permits.owned_by(n) || 0 < self.outs.owned_by(n)
@@ -66,7 +66,6 @@ impl Queue {
 
     // Has this receiver an incoming operation?
     fn receiver_busy(self, n: u32) -> bool
-        requires { Shaped self }
         ensures { result ≡ model.receiver_busy n (queue_of self) }
     {
         0 < self.ins.owned_by(n)
@@ -74,7 +73,6 @@ impl Queue {
 
     // The last sender has left: the line of receivers is closed for good.
     fn silence(&mut self) -> Answer
-        requires { Shaped self.old }
         ensures { Does (silenced (queue_of self.old)) self.old result self.new }
     {
         let closed = self.ins.close_line();
@@ -109,7 +107,6 @@ impl Queue {
 
     // The last receiver has left: the line of senders is closed for good, and the values are discarded.
     fn discard(&mut self) -> Answer
-        requires { Shaped self.old }
         ensures { Does (discarded (queue_of self.old)) self.old result self.new }
     {
         let gone = self.queued();

@@ -3,7 +3,7 @@ ghost use Rattle.std.specs.Prelude.{◌≡◌, Ok};
 ghost use Rattle.side.specs.Meaning.{stage_of};
 ghost use Rattle.model.specs.Calls.{step};
 ghost use Rattle.model.specs.declared.Call.TheVariants.{Recv, TryRecv, PollIn, CancelIn};
-ghost use Rattle.queue.specs.Meaning.{queue_of, Shaped, Sound};
+ghost use Rattle.queue.specs.Meaning.{queue_of, Sound};
 ghost use Rattle.queue.specs.Promise.{Turned};
 ghost use Rattle.queue.specs.Steps.{takable, receivable, passes, Finds, Does, Gives};
 
@@ -18,7 +18,6 @@ impl Queue {
     // A recv is opened: its number.
     #[tactic(auto, unfolding(model::specs::Calls::step, model::specs::Calls::open_in))]
     fn open_in(&mut self, r: u32) -> Result<u32, Error>
-        requires { Shaped self.old }
         ensures { Gives (step (Recv r) (queue_of self.old)) self.old result self.new }
     {
         live(self.receivers, r)?;
@@ -26,7 +25,6 @@ impl Queue {
         taken(&mut self.ins, opened)
     }
 
-    #[tactic(auto, using(crate::proofs::Settled::gives))]
     pub fn recv(mut self, r: u32) -> Turn
         requires { Sound self }
         ensures { Turned self (Recv r) result.answer result.queue }
@@ -67,10 +65,7 @@ impl Queue {
     {
         let answer = match self.receivable(r) {
             Err(error) => plain(Err(error)),
-            Ok(value) => {
-                let woken = self.pop();
-                say(Ok(Success::Value(value)), woken, None)
-            }
+            Ok(value) => say(Ok(Success::Value(value)), self.pop(), None),
         };
         Turn {
             answer,
@@ -97,8 +92,7 @@ impl Queue {
             }
             Ok(Some(value)) => {
                 self.ins = self.ins.end(n);
-                let woken = self.pop();
-                say(Ok(Success::Value(value)), woken, op.stage.kept())
+                say(Ok(Success::Value(value)), self.pop(), op.stage.kept())
             }
         }
     }
@@ -135,8 +129,7 @@ impl Queue {
             Ok(op) => {
                 self.ins = self.ins.end(n);
                 if self.passes_on(op.stage) {
-                    let woken = self.notify();
-                    done(woken)
+                    done(self.notify())
                 } else {
                     say(Ok(Success::Done), None, op.stage.kept())
                 }

@@ -27,8 +27,9 @@ use wakes::Wakes;
 
 // Only the makes and the calls give a queue, and nobody else reads or writes its fields. Their order is for speed: what calls seldom touch lies
 // together and is copied in one piece. The free slots are not counted where the queue is unbounded.
-// What every queue keeps, `Sound`, stands in the clauses and not in a ghost field: it holds the calls that led to the queue and its sides' own
-// `Sound`, and a ghost field takes a bare fact alone.
+// `capacity` is for the definition alone: no call reads it.
+// What its parts keep, their types say. That it came from make or make-u and from calls, `Sound`, each call asks for. No ghost field can say it: it does
+// not hold between the steps of a call, to which the queue is lent (a slot is taken, and its value not pushed yet).
 #[derive(Clone, Copy)]
 pub struct Queue {
     outs: Side,
@@ -86,6 +87,7 @@ pub struct Answer {
     pub retired: Option<u32>,
 }
 
+// A call's answer, and the queue after it. Every call puts it together at its one exit, since at more exits the record would be copied more often.
 #[derive(Clone, Copy)]
 pub struct Turn {
     pub answer: Answer,
@@ -123,7 +125,7 @@ impl Queue {
         }
     }
 
-    // A new queue with sender 0 and receiver 0. Beside a refusal stands the fixed record: no live handle, and every count nought.
+    // A new queue with sender 0 and receiver 0, in a Turn as each call gives one. Beside a refusal stands the fixed record: no live handle, and every count nought.
     pub fn make(capacity: u32) -> Turn
         ensures { Made (by_make capacity) result.answer result.queue }
     {
@@ -137,7 +139,6 @@ impl Queue {
     }
 
     // A new unbounded queue with sender 0 and receiver 0. It holds what its ring holds: 64 values.
-    #[tactic(auto, unfolding(model::specs::Calls::make_u, model::specs::Calls::after))]
     pub fn make_u() -> Turn
         ensures { Made by_make_u result.answer result.queue }
     {

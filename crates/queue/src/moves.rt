@@ -3,7 +3,7 @@
 ghost use Rattle.std.specs.Prelude.{◌≡◌, ◌<◌, length, OnOk, OnErr, ok_or};
 ghost use Rattle.model.specs.Queue as model;
 ghost use Rattle.queue.specs.declared.Error.TheVariants.{NoRoom};
-ghost use Rattle.queue.specs.Meaning.{queue_of, Shaped};
+ghost use Rattle.queue.specs.Meaning.{queue_of};
 ghost use Rattle.queue.specs.Steps.{Small, Moves, popped};
 
 use crate::available::more;
@@ -25,7 +25,6 @@ pub(crate) fn taken<T: Copy>(table: &mut T, opened: Opened<T>) -> Result<u32, Er
 impl Queue {
     // The first receiver in line, if any, is notified. Where nobody waits the side is not even copied.
     pub(crate) fn notify(&mut self) -> Option<Woken>
-        requires { Shaped self.old }
         ensures { Moves (model.notify (queue_of self.old)) self.new result }
     {
         if self.ins.line_is_empty() {
@@ -38,18 +37,17 @@ impl Queue {
 
     // A value goes to the end, and a receiver is notified.
     pub(crate) fn push(&mut self, value: u32) -> Option<Woken>
-        requires shaped { Shaped self.old }
-        requires room { length (queue_of self.old).values < 64 }
+        requires { length (queue_of self.old).values < 64 }
         ensures { Moves (model.push value (queue_of self.old)) self.new result }
     {
         self.values = self.values.push_back(value);
         self.notify()
     }
 
-    // A slot comes back: to the first sender in line, else to the free ones; after the last receiver to nobody.
+    // A slot comes back: to the first sender in line, else to the free ones; after the last receiver to nobody. That one more free slot fits is asked
+    // for, since between the steps of a call only the call knows it.
     pub(crate) fn release(&mut self) -> Option<Woken>
-        requires shaped { Shaped self.old }
-        requires small { Small self.old.available }
+        requires { Small self.old.available }
         ensures { Moves (model.release (queue_of self.old)) self.new result }
     {
         if self.receivers.count() == 0 {
@@ -66,8 +64,7 @@ impl Queue {
 
     // The first value goes, and its slot comes back.
     pub(crate) fn pop(&mut self) -> Option<Woken>
-        requires shaped { Shaped self.old }
-        requires small { Small self.old.available }
+        requires { Small self.old.available }
         ensures { Moves (popped (queue_of self.old)) self.new result }
     {
         let popped = self.values.pop_front();

@@ -5,7 +5,7 @@ ghost use Rattle.side.specs.Meaning.{stage_of};
 ghost use Rattle.model.specs.Queue as model;
 ghost use Rattle.model.specs.Calls.{step};
 ghost use Rattle.model.specs.declared.Call.TheVariants.{TrySend, TryRes, Reserve, Send, PollOut, CancelOut, PermitSend, PermitDrop};
-ghost use Rattle.queue.specs.Meaning.{room_of, queue_of, Shaped, Sound};
+ghost use Rattle.queue.specs.Meaning.{room_of, queue_of, Sound};
 ghost use Rattle.queue.specs.Promise.{Turned};
 ghost use Rattle.queue.specs.Steps.{Small, opening, ready, counted, sendable, completed, cancelled, Finds, Does, Gives, GivesPermit};
 
@@ -71,8 +71,7 @@ impl Queue {
             Err(error) => plain(Err(error)),
             Ok(()) => {
                 self.available = less(self.available);
-                let woken = self.push(v);
-                done(woken)
+                done(self.push(v))
             }
         };
         Turn {
@@ -83,7 +82,6 @@ impl Queue {
 
     // A permit of this sender: its number, if one is left. Only then is a slot taken, which leaves these.
     fn give_permit(&mut self, owner: u32, available: Option<u32>) -> Result<u32, Error>
-        requires { Shaped self.old }
         ensures { GivesPermit self.old owner available result self.new }
     {
         let opened = self.permits.open(owner);
@@ -95,7 +93,6 @@ impl Queue {
     // A permit at once: its number.
     #[tactic(auto, unfolding(model::specs::Calls::step, model::specs::Calls::try_res, crate::specs::Steps::sendable, crate::specs::Steps::counted))]
     fn reserved(&mut self, s: u32) -> Result<u32, Error>
-        requires { Shaped self.old }
         ensures { Gives (step (TryRes s) (queue_of self.old)) self.old result self.new }
     {
         self.counted(s)?;
@@ -104,7 +101,6 @@ impl Queue {
         self.give_permit(s, left)
     }
 
-    #[tactic(auto, using(crate::proofs::Settled::gives))]
     pub fn try_res(mut self, s: u32) -> Turn
         requires { Sound self }
         ensures { Turned self (TryRes s) result.answer result.queue }
@@ -119,7 +115,6 @@ impl Queue {
     // A reserve or a send is opened, by what it carries: its number.
     #[tactic(auto, unfolding(model::specs::Calls::step, model::specs::Calls::open_out, crate::specs::Steps::counted))]
     fn open_out(&mut self, s: u32, cargo: Option<u32>) -> Result<u32, Error>
-        requires { Shaped self.old }
         ensures { Gives (step (opening cargo s) (queue_of self.old)) self.old result self.new }
     {
         self.counted(s)?;
@@ -127,7 +122,6 @@ impl Queue {
         taken(&mut self.outs, opened)
     }
 
-    #[tactic(auto, using(crate::proofs::Settled::gives))]
     pub fn reserve(mut self, s: u32) -> Turn
         requires { Sound self }
         ensures { Turned self (Reserve s) result.answer result.queue }
@@ -139,7 +133,6 @@ impl Queue {
         }
     }
 
-    #[tactic(auto, using(crate::proofs::Settled::gives))]
     pub fn send(mut self, s: u32, v: u32) -> Turn
         requires { Sound self }
         ensures { Turned self (Send s v) result.answer result.queue }
@@ -154,7 +147,6 @@ impl Queue {
     // An open operation has its slot, and these stay free: a reserve ends with a permit, a send with a push. Where no number is left for a
     // permit, everything stays as it is.
     fn complete(&mut self, n: u32, op: Entry, available: Option<u32>) -> Answer
-        requires shaped { Shaped self.old }
         requires open { Finds self.old.outs n (Ok op) }
         requires room { length (queue_of self.old).values < 64 }
         ensures { Does (completed n op.cargo op.owner available (queue_of self.old)) self.old result self.new }
@@ -168,8 +160,7 @@ impl Queue {
         };
         self.outs = self.outs.end(n);
         self.available = available;
-        let woken = self.push(value);
-        done(woken)
+        done(self.push(value))
     }
 
     // An open operation is polled: it is told that nobody is left to receive, has its grant or takes a free slot, or stays pending.
@@ -212,13 +203,11 @@ impl Queue {
 
     // An operation that was at this stage is cancelled: a slot that it was granted comes back, and a token that it kept goes back.
     fn cancelled(&mut self, stage: Stage) -> Answer
-        requires shaped { Shaped self.old }
-        requires small { Small self.old.available }
+        requires { Small self.old.available }
         ensures { Does (cancelled (stage_of stage) (queue_of self.old)) self.old result self.new }
     {
         if stage.is_called() {
-            let woken = self.release();
-            return done(woken);
+            return done(self.release());
         }
         say(Ok(Success::Done), None, stage.kept())
     }
@@ -253,8 +242,7 @@ impl Queue {
                 if self.receivers.count() == 0 {
                     plain(Err(Error::Disconnected(Some(v))))
                 } else {
-                    let woken = self.push(v);
-                    done(woken)
+                    done(self.push(v))
                 }
             }
         };
@@ -273,8 +261,7 @@ impl Queue {
             Err(error) => plain(Err(error)),
             Ok(()) => {
                 self.permits = self.permits.close(p);
-                let woken = self.release();
-                done(woken)
+                done(self.release())
             }
         };
         Turn {

@@ -1,4 +1,5 @@
-// Answers, made apart from the queue that stands beside them.
+// Answers, made apart from the queue that stands beside them. A call takes its refusal by `match` and not by `?`, since an answer holds its error itself,
+// and may hand a token back beside it.
 ghost use Rattle.std.specs.Prelude.{[], ◌≡◌, Ok, option_to_list};
 ghost use Rattle.wakes.specs.Tokens.{tokens_of};
 ghost use Rattle.queue.specs.declared.Success.TheVariants.{Done};

@@ -1,7 +1,7 @@
-// The counts of a queue. The specification adds status; the crate has no word for it.
+// The counts of a queue: the call status, which asyncband has not.
 ghost use Rattle.std.specs.Prelude.{◌≡◌, length};
 ghost use Rattle.model.specs.declared.Call.TheVariants.{Status};
-ghost use Rattle.queue.specs.Meaning.{queue_of, Shaped, Sound};
+ghost use Rattle.queue.specs.Meaning.{queue_of, Sound};
 ghost use Rattle.queue.specs.Promise.{Turned};
 ghost use Rattle.queue.specs.Steps.{Counted};
 
@@ -10,7 +10,7 @@ use crate::{Counts, Queue, Success, Turn};
 use tables::Numbered;
 
 impl Queue {
-    // How many values are queued.
+    // How many values are queued: never more than the ring holds, so that the cast keeps the number.
     #[tactic(auto, using(crate::proofs::Handing::values_fit))]
     pub(crate) fn queued(self) -> u32
         ensures { result ≡ length (queue_of self).values }
@@ -19,7 +19,6 @@ impl Queue {
     }
 
     fn counts(self) -> Counts
-        requires { Shaped self }
         ensures { Counted self result }
     {
         Counts {

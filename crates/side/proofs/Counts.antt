@@ -24,8 +24,10 @@ use Rattle.tables.proofs.Counts as table
 use Rattle.side.specs.declared.Side.{Side}
 use Rattle.side.specs.declared.Entry.{Entry}
 use Rattle.side.specs.Meaning.{Deed, turn_of, number_in, stage_by, deed_by, table_of, deed_of, side_of, place_in, Tests}
-use Rattle.side.specs.Sound.{node_of, node_in, node_at, Sound}
-use Rattle.side.proofs.Lists.{mapped, mapped_in, mapped_once}
+use Rattle.side.specs.Sound.{node_of, node_in, node_at}
+use Rattle.side.proofs.Kept.{sound_of}
+use Rattle.waitlist.proofs.Room.{map_once}
+use Rattle.side.proofs.Lists.{mapped, mapped_in}
 use Rattle.side.proofs.Laws.{node_waits}
 use Rattle.side.proofs.Numbers.{stored, wide_ops, place_holds, live_row, line_place}
 use Rattle.side.proofs.Calling.{stander}
@@ -36,8 +38,8 @@ pub record Counting (f : Deed → ℕ) (s : Side) (p total : ℕ) : Type 0 where
   pub few : total ≤ p
 
 module _ (f : Deed → ℕ) (s : Side) where
-  pub counting_none : Sound s → Counting f s 0 0
-  counting_none snd = record { so = table.counting_none f (side_of s).ops 32 (wide_ops s snd); few = omega arith }
+  pub counting_none : Counting f s 0 0
+  counting_none = record { so = table.counting_none f (side_of s).ops 32 (wide_ops s); few = omega arith }
 
   module _ (p total : ℕ) (c : Counting f s p total) where
     -- the next place counts where an operation is seen there that passes
@@ -101,7 +103,7 @@ module _ (f : Deed → ℕ) (t : Table Deed) (size : ℕ) (wide : length t ≡ s
 abbrev pub waits : Deed → ℕ
 waits op = model.waits op.stage
 
-module _ (s : Side) (snd : Sound s) where
+module _ (s : Side) where
   abbrev place : ℕ → ℕ
   place k = op_of (held s.waiters k)
 
@@ -109,13 +111,13 @@ module _ (s : Side) (snd : Sound s) where
   places = map place (line s.waiters)
 
   once : NoDup places
-  once = mapped_once place (line s.waiters) (line_once s.waiters snd.ties.list) (λ j k m n e. same_id j k (sym (line_place s snd j m).1 ∙ (ap (node_at (table_of s)) e ∙ (line_place s snd k n).1)))
+  once = map_once place (line s.waiters) (line_once s.waiters) (λ j k m n e. same_id j k (sym (line_place s j m).1 ∙ (ap (node_at (table_of s)) e ∙ (line_place s k n).1)))
 
   stands : (k : ℕ) → Memᴰ k (line s.waiters) → of waits (in_place (place_in s (place k))) ≡ 1
   stands k m =
-      let d = stander s snd k m in
+      let d = stander s k m in
       ap (λ (j : ℕ). of waits (in_place (place_in s j))) (ap op_of d.holds)
-      ∙ (ap (λ (x : Place Deed). of waits (in_place x)) (place_holds s snd d.place d.live) ∙ ap model.waits d.stage)
+      ∙ (ap (λ (x : Place Deed). of waits (in_place x)) (place_holds s d.place d.live) ∙ ap model.waits d.stage)
 
   -- whoever waits stands in line
   apart : (p : ℕ) → NotIn p places → of waits (in_place (place_in s p)) ≡ 0
@@ -125,9 +127,9 @@ module _ (s : Side) (snd : Sound s) where
       waiting : (t : ℕ) → get_or (live_of s.places.live) p false ≡ true → stage_by s.waiters (stored s p).mark ≡ model.waiting t → ⊥
       waiting t e q =
           let a = node_waits s.waiters (stored s p).mark t q in
-          let node : node_at (table_of s) p ≡ Some (waiter_id a.0) = ap node_in (live_row s snd p e) ∙ ap node_of a.1 in
-          let h = snd.ties.owned.forth p a.0 node in
-          out (Memᴰ.cast (sym (ap op_of h.1)) (mapped_in place a.0 (line s.waiters) (snd.ties.lined a.0 a.2 t a.3)))
+          let node : node_at (table_of s) p ≡ Some (waiter_id a.0) = ap node_in (live_row s p e) ∙ ap node_of a.1 in
+          let h = (sound_of s).ties.owned.forth p a.0 node in
+          out (Memᴰ.cast (sym (ap op_of h.1)) (mapped_in place a.0 (line s.waiters) ((sound_of s).ties.lined a.0 a.2 t a.3)))
 
       none : (st : model.Stage) → ((t : ℕ) → st ≡ model.waiting t → ⊥) → model.waits st ≡ 0
       none model.idle h = refl
@@ -136,15 +138,15 @@ module _ (s : Side) (snd : Sound s) where
       none model.void h = refl
 
       by : (b : Bool) → get_or (live_of s.places.live) p false ≡ b → of waits (in_place (place_in s p)) ≡ 0
-      by true e = ap (λ (x : Place Deed). of waits (in_place x)) (place_holds s snd p e) ∙ none (stage_by s.waiters (stored s p).mark) (λ t. waiting t e)
+      by true e = ap (λ (x : Place Deed). of waits (in_place x)) (place_holds s p e) ∙ none (stage_by s.waiters (stored s p).mark) (λ t. waiting t e)
       by false e = ap (λ (x : Place Deed). of waits (in_place x)) (place_vacant turn_of (deed_by s.waiters) (live_of s.places.live) s.ops p e)
 
   pub line_counted : (n : ℕ) → n ≡ sum waits (side_of s).ops → n ≡ length (side_of s).line
   unfolding side_of
   line_counted n e =
       e
-      ∙ (sym (table.counting_done waits (side_of s).ops 32 32 (length places) (tally waits (side_of s).ops 32 (wide_ops s snd) 32 places once (omega arith)
-      (mapped place (λ p. p < 32) (line s.waiters) (λ k m. (line_place s snd k m).0))
+      ∙ (sym (table.counting_done waits (side_of s).ops 32 32 (length places) (tally waits (side_of s).ops 32 (wide_ops s) 32 places once (omega arith)
+      (mapped place (λ p. p < 32) (line s.waiters) (λ k m. (line_place s k m).0))
       (mapped place (λ p. of waits (in_place (place_in s p)) ≡ 1) (line s.waiters) stands)
       (λ p b. apart p)) (omega arith))
-      ∙ (length-map (line s.waiters) place ∙ sym (along_length (number_in s.ops) s.waiters snd.ties.list)))
+      ∙ (length-map (line s.waiters) place ∙ sym (along_length (number_in s.ops) s.waiters)))

@@ -28,6 +28,7 @@ use Rattle.side.specs.declared.Side.{Side}
 use Rattle.side.specs.Meaning.{Deed, blank_op, fresh_op, turn_of, number_at, number_in, deed_by, table_of, side_of, place_in}
 use Rattle.side.specs.Sound.{node_at, Wiped, Sound}
 use Rattle.side.specs.Calls.{Open}
+use Rattle.side.proofs.Kept.{sound_of}
 
 abbrev pub stored : Side → ℕ → Op
 stored s p = get_or s.ops p fresh_op
@@ -83,7 +84,11 @@ wiped_set live live' xs p x inside other here h k e = go (ℕ_discrete k p)
     go (no d) = wiped_by (get_or (set xs p x) k fresh_op) (get_or xs k fresh_op) (get_or-set_other xs p k x fresh_op d) (h k (sym (other k d) ∙ e))
 
 -- ---- what stands at a place of the model's table
-module _ (s : Side) (snd : Sound s) where
+module _ (s : Side) where
+  -- what it keeps
+  snd : Sound s
+  snd = sound_of s
+
   abbrev bits : List Bool
   bits = live_of s.places.live
 

@@ -1,28 +1,19 @@
 -- WHAT EACH METHOD OF A SIDE DOES, by the model's move of that name. Assumes nothing.
-use Rattle.std.specs.Prelude.{ℕ, ◌%◌, ◌≡◌, [], ◌∷◌, ◌++◌, map, take}
+use Rattle.std.specs.Prelude.{ℕ, ◌%◌, ◌≡◌, [], ◌∷◌, ◌++◌, take}
 use Rattle.std.specs.Prelude.{Option, None, Some, option_map, option_to_list}
-use Rattle.arena.specs.declared.Waiter.{Waiter}
-use Rattle.arena.specs.declared.Waiter.TheVariants.{Waiting, Called}
-use Rattle.arena.specs.Lists as lists
-use Rattle.waitlist.specs.declared.WaitList.{WaitList}
-use Rattle.waitlist.specs.declared.Held.{Held}
-use Rattle.waitlist.specs.View.{waiter_id, held, line, along}
-use Rattle.waitlist.specs.Sound as wait
-use Rattle.waitlist.specs.Calls.{Refreshes}
 use Rattle.model.specs.Table.{blank, lookup, put, lowest}
 use Rattle.model.specs.Side as model
 use Rattle.model.specs.Queue.{Job}
 use Rattle.wakes.specs.Tokens.{tokens_of}
 use Rattle.tables.specs.declared.Opened.{Opened}
-use Rattle.side.specs.declared.Mark.{Mark}
 use Rattle.side.specs.declared.Side.{Side}
 use Rattle.side.specs.declared.Entry.{Entry}
 use Rattle.side.specs.declared.Pended.{Pended}
 use Rattle.side.specs.declared.CalledOne.{CalledOne}
 use Rattle.side.specs.declared.Closed.{Closed}
-use Rattle.side.specs.declared.Woken.{Woken}
 use Rattle.side.specs.Meaning.{Deed, carried, table_of, side_of, deed_of}
-use Rattle.side.specs.Sound.{Sound, node_of, node_at}
+use Rattle.side.specs.Sound.{Sound, node_at}
+pub use Rattle.side.specs.Operations.{Leaves, Refreshed, woken_of}
 
 -- operation n is open; it has no node
 abbrev pub Open : Side → ℕ → Type 0
@@ -66,11 +57,6 @@ pub record CallsOne (s : Side) (r : CalledOne) : Type 0 where
   pub woken : option_to_list (option_map (λ w. w.token) r.woken) ≡ model.first_token (side_of s)
   pub number : option_to_list (option_map (λ w. w.number) r.woken) ≡ take 1 (side_of s).line
 
--- operation n, whose waiter this was, was called
-abbrev pub woken_of : ℕ → Waiter → Option Woken
-woken_of n (Waiting t) = Some (record { number = n; token = t })
-woken_of n Called = None
-
 -- ---- close_line
 pub record Closes (s : Side) (r : Closed) : Type 0 where
   pub sound : Sound r.side
@@ -78,17 +64,6 @@ pub record Closes (s : Side) (r : Closed) : Type 0 where
   pub wakes : tokens_of r.wakes ≡ model.all_tokens (side_of s)
 
 -- ---- the steps inside
--- a node goes from the wait list
-pub record Leaves (w : WaitList) (i : ℕ) (r : WaitList) : Type 0 where
-  pub sound : wait.Sound r
-  pub here : held r i ≡ None
-  pub there : (k : ℕ) → (k ≡ i → ⊥) → held r k ≡ held w k
-  pub reads : (f : Option Held → ℕ) → along f r ≡ map (λ (k : ℕ). f (held w k)) (lists.without i (line w))
-  pub line : line r ≡ lists.without i (line w)
-
-abbrev pub Refreshed : WaitList → Mark → ℕ → WaitList → Type 0
-Refreshed w m t r = (i : ℕ) → node_of m ≡ Some (waiter_id i) → Refreshes w i (Waiting t) r
-
 -- operation n is at some stage, has no node and is not in line; nothing else changes
 pub record Detached (s : Side) (n : ℕ) (op : Deed) (r : Side) : Type 0 where
   pub stage : model.Stage

@@ -6,16 +6,12 @@
 #![tactic(auto)]
 
 ghost use Rattle.std.specs.Prelude.{◌≡◌, ℕ, map, ◌<◌, eqb, length, option_map, option_to_list};
-ghost use Rattle.waitlist.specs.Sound as wait;
 ghost use Rattle.waitlist.specs.View.{is_nil};
 ghost use Rattle.model.specs.Side as model;
 ghost use Rattle.model.specs.Table.{sum, turn, in_place, was_closed};
-ghost use Rattle.side.specs.Meaning.{cargo_of, idle_op, blank_op, fresh_op, side_of, place_in, stage_of, told_by, stage_by, deed_of, voided, Deed, Tests};
-ghost use Rattle.side.specs.Sound.{Sound};
-ghost use Rattle.side.specs.Calls.{Open, Alone, Fresh, Sees, Leaves, Refreshed, Detaches, Joins, Opens, Ends, Pends, CallsOne, Closes, woken_of};
+ghost use Rattle.side.specs.Operations.{cargo_of, idle_op, blank_op, fresh_op, stage_of, told_by, stage_by, deed_of, voided, woken_of, Deed, Tests, Leaves, Refreshed, SoundBy};
 
 use arena::{Waiter, WaiterId};
-use live::Live;
 use tables::{Number, Numbered, Opened, Places};
 use waitlist::WaitList;
 use wakes::Wakes;
@@ -42,13 +38,14 @@ pub struct Op {
 const _: () = prove!(size_of::<Op>() == 16);
 
 // Both ends are numbers that calls look at, the line's head and the words of the places, so that what lies between is copied in one piece.
-// What every side keeps, `Sound`, stands in the clauses and not in a ghost field: it holds the wait list's own `Sound`, which has the line's order
-// as a value, and a ghost field takes a bare fact alone.
+// Every side is sound. The fact is truncated, for it tells, as values, which waiter the node of an operation holds, and a ghost field may hold no
+// more than that it is so; the lemma `sound_of` (proofs/Kept.antt) reads those values off the nodes.
 #[derive(Clone, Copy)]
 pub struct Side {
     waiters: WaitList,
     ops: [Op; 32],
     places: Places,
+    ghost sound: { ∥ SoundBy waiters ops places ∥₁ },
 }
 
 // How far an operation is, as its caller sees it.
@@ -170,7 +167,6 @@ impl From<Waiter> for Stage {
 
 // How far an operation with this mark is. (A node that the mark names is there: the arm for none is never taken.)
 fn stage_of(waiters: WaitList, mark: Mark) -> Stage
-    requires { wait.Sound waiters }
     ensures { stage_of result ≡ stage_by waiters mark }
 {
     match mark {
@@ -185,7 +181,6 @@ fn stage_of(waiters: WaitList, mark: Mark) -> Stage
 
 // The node goes, in line or not: remove_waiter of queue.rs.
 fn remove_waiter(waiters: WaitList, id: WaiterId) -> WaitList
-    requires { wait.Sound waiters }
     ensures { Leaves waiters id.0.0 result }
 {
     waiters.unlink_waiter(id).remove_unlinked(id).list
@@ -193,7 +188,6 @@ fn remove_waiter(waiters: WaitList, id: WaiterId) -> WaitList
 
 // The node, if the mark names one, holds another token.
 fn refreshed(waiters: WaitList, mark: Mark, token: u32) -> WaitList
-    requires { wait.Sound waiters }
     ensures { Refreshed waiters mark token result }
 {
     match mark {
@@ -233,14 +227,18 @@ fn void(op: Op) -> Op
 }
 
 impl Numbered for Side {
+    ghost use Rattle.side.specs.Meaning.{side_of};
+
+    const LIMIT: u32 = Op::LIMIT;
+
+    ghost LIMIT = { 32 };
+
     ghost Shown = { Deed };
 
     ghost table_of = { λ side. (side_of side).ops };
 
-    ghost kept = { Sound };
-
-    fn live_places(self) -> Live {
-        self.places.live
+    fn words(self) -> Places {
+        self.places
     }
 
     fn turn_at(self, place: u32) -> u32 {
@@ -252,6 +250,9 @@ impl Numbered for Side {
 }
 
 impl Side {
+    ghost use Rattle.side.specs.Meaning.{side_of, place_in};
+    ghost use Rattle.side.specs.Calls.{Open, Alone, Fresh, Sees, Detaches, Joins, Opens, Ends, Pends, CallsOne, Closes};
+
     pub fn fresh() -> Side
         ensures { Fresh result }
     {
@@ -264,7 +265,6 @@ impl Side {
 
     // The operation at a place, if one is open there.
     fn at(self, place: u32) -> Option<Entry>
-        requires { Sound self }
         ensures { option_map deed_of result ≡ in_place (place_in self place) }
     {
         if self.places.live.has(place) {
@@ -280,7 +280,6 @@ impl Side {
 
     // The operation with the number n, if it is open: an operation of another turn at its place is another operation.
     pub fn get(self, n: u32) -> Option<Entry>
-        requires { Sound self }
         ensures { Sees self n result }
     {
         let number = Number::from(n);
@@ -292,17 +291,14 @@ impl Side {
 
     // An operation is opened at the lowest free place with a turn left, if there is one.
     pub fn open(mut self, owner: u32, cargo: Option<u32>) -> Opened<Side>
-        requires { Sound self }
         ensures { Opens self owner cargo result }
     {
-        let place = self.places.lowest_free();
-        if place >= Op::LIMIT {
+        let Some(Number { place, turn }) = self.vacancy() else {
             return Opened {
                 number: None,
                 next: self,
             };
-        }
-        let turn = self.ops[place as usize].turn;
+        };
         self.ops[place as usize] = Op::idle(owner, cargo, turn);
         self.places = self.places.opened(place);
         Opened {
@@ -311,23 +307,23 @@ impl Side {
         }
     }
 
-    // Operation n has no node any more, in line or called.
+    // Operation n has no node any more, in line or called. That n is open is asked here and below: it is a fact of a side and a number, and of no type.
     fn detach(mut self, n: u32) -> Side
-        requires sound { Sound self }
         requires opened { Open self n }
         ensures { Detaches self n result }
     {
         let i = Number::from(n).place as usize;
-        if let Mark::At(id) = self.ops[i].mark {
-            self.ops[i].mark = Mark::Idle;
-            self.waiters = remove_waiter(self.waiters, id);
-        }
+        let Mark::At(id) = self.ops[i].mark else {
+            return self;
+        };
+        self.ops[i].mark = Mark::Idle;
+        self.waiters = remove_waiter(self.waiters, id);
         self
     }
 
-    // Operation n, which has no node, joins the end of the line. There is room for its node: each other node has an operation of its own.
+    // Operation n, which has no node, joins the end of the line. There is room for its node: each other node has an operation of its own. Its place is
+    // below 32, so the cast to the node's byte loses nothing.
     fn join(mut self, n: u32, token: u32) -> Side
-        requires sound { Sound self }
         requires opened { Open self n }
         requires alone { Alone self n }
         ensures { Joins self n token result }
@@ -341,7 +337,6 @@ impl Side {
 
     // Operation n ends, and leaves the line if it stands there. One more turn of its place is over, and the place is spent after its last.
     pub fn end(self, n: u32) -> Side
-        requires sound { Sound self }
         requires opened { Open self n }
         ensures { Ends self n result }
     {
@@ -355,7 +350,6 @@ impl Side {
 
     // Operation n stays pending with the token: in line it keeps its place, else it joins the tail. (register of queue.rs)
     pub fn pend(mut self, n: u32, token: u32) -> Pended
-        requires sound { Sound self }
         requires opened { Open self n }
         ensures { Pends self n token result }
     {
@@ -374,8 +368,7 @@ impl Side {
     }
 
     // The first in line, if any, is called and leaves the line: notify_one and grant_one of queue.rs.
-    pub fn call_first(self) -> CalledOne
-        requires { Sound self }
+    pub fn call_first(mut self) -> CalledOne
         ensures { CallsOne self result }
     {
         let out = wakes::call_first(self.waiters);
@@ -387,33 +380,25 @@ impl Side {
         };
         let place = u32::from(held.op);
         let number = tables::number_at(place, self.turn_at(place));
+        self.waiters = out.list;
         CalledOne {
             woken: woken_of(number, held.waiter),
-            side: Side {
-                waiters: out.list,
-                ..self
-            },
+            side: self,
         }
     }
 
     // The line is closed for good: all its tokens are woken in order, and no operation has a node any more.
-    pub fn close_line(self) -> Closed
-        requires { Sound self }
+    pub fn close_line(mut self) -> Closed
         ensures { Closes self result }
     {
-        Closed {
-            wakes: wakes::wake_all(self.waiters),
-            side: Side {
-                waiters: WaitList::new(),
-                ops: self.ops.map(void),
-                ..self
-            },
-        }
+        let wakes = wakes::wake_all(self.waiters);
+        self.waiters = WaitList::new();
+        self.ops = self.ops.map(void);
+        Closed { wakes, side: self }
     }
 
     // Is nobody in line?
     pub fn line_is_empty(self) -> bool
-        requires { Sound self }
         ensures { result ≡ is_nil (side_of self).line }
     {
         self.waiters.is_empty()
@@ -421,7 +406,6 @@ impl Side {
 
     // How many wait in line.
     pub fn in_line(self) -> u32
-        requires { Sound self }
         ensures { result ≡ length (side_of self).line }
     {
         self.count_where(|entry| matches!(entry.stage, Stage::Waiting(_)))
@@ -430,7 +414,6 @@ impl Side {
     // How many of the open operations pass a test.
     fn count_where<F: Fn(Entry) -> bool>(self, passes: F) -> u32
         ghost counts: { Deed → ℕ }
-        requires sound { Sound self }
         requires callable { F.IsAlwaysCallable passes }
         requires counted { Tests (F.post passes) counts }
         ensures { result ≡ sum counts (side_of self).ops }
@@ -444,7 +427,6 @@ impl Side {
 
     // How many belong to a handle.
     pub fn owned_by(self, owner: u32) -> u32
-        requires { Sound self }
         ensures { result ≡ model.owned_by owner (side_of self) }
     {
         self.count_where(|entry| entry.owner == owner)
@@ -452,7 +434,6 @@ impl Side {
 
     // How many are called.
     pub fn called(self) -> u32
-        requires { Sound self }
         ensures { result ≡ model.called_count (side_of self) }
     {
         self.count_where(|entry| entry.stage.is_called())
@@ -460,7 +441,6 @@ impl Side {
 
     // How many were polled.
     pub fn polled(self) -> u32
-        requires { Sound self }
         ensures { result ≡ model.polled_count (side_of self) }
     {
         self.count_where(|entry| entry.stage.is_polled())

@@ -1,6 +1,6 @@
 // The entry for a station that keeps its queue in a record and lends it for one call at a time: the record afterwards holds the next queue,
 // after a refusal too. It is one thin function over `&mut`; a caller with plain parameters takes `served`. It lists the calls as `Queue::step`
-// does: by way of that the whole record is copied once more, and a lent call takes a quarter longer.
+// does: by way of that the whole record is copied once more, and a lent call takes nearly twice the instructions.
 // The promise is the queue's own, `Turned`.
 #![tactic(auto)]
 

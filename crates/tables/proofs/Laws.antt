@@ -7,14 +7,15 @@ use Rattle.std.specs.Prelude.{Option, None, Some, cond, if◌then◌else◌}
 use Rattle.std.specs.List.{count_by, range_with_len}
 use native.Mathlib.Nat.{zero-add}
 use native.Mathlib.Omega.{arith}
+use borrow.Author.Tests.{le-ltb}
 use native.Mathlib.Decide.{ℕ_discrete}
-use lib.Dec.{eqb}
+use lib.Dec.{eqb, ltb}
 use lib.ListN.{length, get_or, set, replicate}
 use lib.Seq.{set-get_or, get_or-set_same, get_or-set_other}
 use Rattle.live.specs.declared.Live.{Live}
-use Rattle.live.specs.Bits.{live_of, none_live, lowest_clear, either}
+use Rattle.live.specs.Bits.{live_of, none_live}
 use Rattle.live.proofs.Laws.{length_live}
-use Rattle.model.specs.Table.{LAST_TURN, vacant, turn, in_place, lookup, of, sum}
+use Rattle.model.specs.Table.{vacant, turn, in_place, lookup, was_closed, put, lowest, of, sum}
 use Rattle.tables.specs.declared.Handle.{Handle}
 use Rattle.tables.specs.declared.Handles.{Handles}
 use Rattle.tables.specs.declared.Permit.{Permit}
@@ -68,7 +69,7 @@ module _ (h : Handles) where
   few : 16 ≤ 64
   few = omega arith
 
-  pub handles_marked : Marks (live_of h.places.live) (handles_of h)
+  pub handles_marked : Marks 16 (live_of h.places.live) (live_of h.places.spent) (handles_of h)
   unfolding handles_of
   handles_marked = words.marks handle_turn marked no_handle 16 few h.places.live h.places.spent h.table h.used
 
@@ -80,40 +81,37 @@ module _ (h : Handles) where
   unfolding handles_of
   handle_turn_past = words.turn_past handle_turn marked no_handle 16 few h.places.live h.places.spent h.table h.used
 
-  module _ (i : ℕ) (e : i ≡ lowest_clear (either (live_of h.places.live) (live_of h.places.spent))) where
-    pub handle_left : i < 16 → (get_or h.table i no_handle).turn ≤ LAST_TURN
-    handle_left = words.turn_left handle_turn marked no_handle 16 few h.places.live h.places.spent h.table h.used i e
+  -- a number whose place is past the limit was never given, so it is not closed
+  pub handle_never : (n : ℕ) → 16 ≤ n % 64 → false ≡ was_closed (handles_of h) n
+  handle_never n b = sym (le-ltb (n / 64) 0 (omega arith)) ∙ ap (ltb (n / 64)) (handle_turn_past (n % 64) b)
 
-    -- the record stays as it is: it holds its turn alone
-    module _ (b : i < 16) (n : ℕ) (q : n ≡ i + 64 * (get_or h.table i no_handle).turn) (p : Places) (g : live_of p.live ≡ set (live_of h.places.live) i true) where
-      kept : set h.table i (get_or h.table i no_handle) ≡ h.table
-      kept = set-get_or h.table i no_handle
+  -- a handle at the place found stays as its record is, which holds its turn alone
+  module _ (i k : ℕ) (b : i < 16) (e : Some (i + 64 * k) ≡ lowest (handles_of h)) (p : Places) (g : live_of p.live ≡ set (live_of h.places.live) i true) where
+    kept : set h.table i (get_or h.table i no_handle) ≡ h.table
+    kept = set-get_or h.table i no_handle
 
-      pub handle_opened_used : p.spent ≡ h.places.spent → Used handle_turn 16 (live_of p.live) (live_of p.spent) h.table
-      handle_opened_used z =
-          subst (λ (m : Live). Used handle_turn 16 (live_of p.live) (live_of m) h.table) (sym z)
-          (subst (λ (t : List Handle). Used handle_turn 16 (live_of p.live) (live_of h.places.spent) t) kept
-          (words.opened_used handle_turn marked no_handle 16 few h.places.live h.places.spent h.table h.used i e b n q (get_or h.table i no_handle) refl p.live g))
-
-      pub handle_given : (r : Handles) → r.places ≡ p → r.table ≡ h.table → Clones h (record { number = Some n; next = r })
-      unfolding handles_of
-      handle_given r c t =
-          record {
-            sound = handles_sound r;
-            number = words.number_given handle_turn marked no_handle 16 few h.places.live h.places.spent h.table h.used i e b n q;
-            handles =
-                ap (λ (p : Places). places_of handle_turn marked (live_of p.live) r.table) c
-                ∙ (ap (places_of handle_turn marked (live_of p.live)) (t ∙ sym kept)
-                ∙ words.opened_places handle_turn marked no_handle 16 few h.places.live h.places.spent h.table h.used i e b n q (get_or h.table i no_handle) refl p.live g);
-          }
-
-    pub handle_full : 16 ≤ i → Clones h (record { number = None; next = h })
+    on_turn : (get_or h.table i no_handle).turn ≡ k
     unfolding handles_of
-    handle_full b =
+    on_turn = words.turn_found handle_turn marked no_handle 16 few h.places.live h.places.spent h.table h.used i k b e
+
+    pub handle_opened_used : p.spent ≡ h.places.spent → Used handle_turn 16 (live_of p.live) (live_of p.spent) h.table
+    unfolding handles_of
+    handle_opened_used z =
+        subst (λ (m : Live). Used handle_turn 16 (live_of p.live) (live_of m) h.table) (sym z)
+        (subst (λ (t : List Handle). Used handle_turn 16 (live_of p.live) (live_of h.places.spent) t) kept
+        (words.opened_used handle_turn marked no_handle 16 few h.places.live h.places.spent h.table h.used i k b e (get_or h.table i no_handle) on_turn p.live g))
+
+    pub handle_given : (n : ℕ) → n ≡ i + 64 * k → (r : Handles) → r.places ≡ p → r.table ≡ h.table → Clones h (record { number = Some n; next = r })
+    unfolding handles_of
+    handle_given n q r c t =
         record {
-          sound = handles_sound h;
-          number = words.none_left handle_turn marked no_handle 16 few h.places.live h.places.spent h.table h.used i e b;
-          handles = refl;
+          sound = handles_sound r;
+          number = ap Some q ∙ e;
+          handles =
+              ap (λ (p : Places). places_of handle_turn marked (live_of p.live) r.table) c
+              ∙ (ap (places_of handle_turn marked (live_of p.live)) (t ∙ sym kept)
+              ∙ (words.opened_places handle_turn marked no_handle 16 few h.places.live h.places.spent h.table h.used i k b e (get_or h.table i no_handle) on_turn p.live g
+              ∙ ap (λ (j : ℕ). put (handles_of h) j tt) (sym q)));
         }
 
   module _ (n : ℕ) (is : is_live (lookup (handles_of h) n) ≡ true) (place turns : ℕ) (here : place ≡ n % 64) (on : turns ≡ n / 64) where
@@ -168,7 +166,7 @@ module _ (h : Permits) where
   unfolding permits_of
   wide_permits = words.wide permit_turn owner_of no_permit 64 all h.places.live h.places.spent h.table h.used
 
-  pub permits_marked : Marks (live_of h.places.live) (permits_of h)
+  pub permits_marked : Marks 64 (live_of h.places.live) (live_of h.places.spent) (permits_of h)
   unfolding permits_of
   permits_marked = words.marks permit_turn owner_of no_permit 64 all h.places.live h.places.spent h.table h.used
 
@@ -180,41 +178,30 @@ module _ (h : Permits) where
   unfolding permits_of
   permit_turn_past = words.turn_past permit_turn owner_of no_permit 64 all h.places.live h.places.spent h.table h.used
 
-  module _ (i : ℕ) (e : i ≡ lowest_clear (either (live_of h.places.live) (live_of h.places.spent))) where
-    pub permit_left : i < 64 → (get_or h.table i no_permit).turn ≤ LAST_TURN
-    permit_left = words.turn_left permit_turn owner_of no_permit 64 all h.places.live h.places.spent h.table h.used i e
+  module _ (i k : ℕ) (b : i < 64) (e : Some (i + 64 * k) ≡ lowest (permits_of h)) (s : ℕ) (p : Places) (g : live_of p.live ≡ set (live_of h.places.live) i true) where
+    abbrev new : Permit
+    new = record { owner = s; turn = k }
 
-    module _ (b : i < 64) (s n : ℕ) (q : n ≡ i + 64 * (get_or h.table i no_permit).turn) (p : Places) (g : live_of p.live ≡ set (live_of h.places.live) i true) where
-      abbrev new : Permit
-      new = record { owner = s; turn = (get_or h.table i no_permit).turn }
-
-      pub permit_opened_used : p.spent ≡ h.places.spent → Used permit_turn 64 (live_of p.live) (live_of p.spent) (set h.table i new)
-      permit_opened_used z =
-          subst (λ (m : Live). Used permit_turn 64 (live_of p.live) (live_of m) (set h.table i new)) (sym z)
-          (words.opened_used permit_turn owner_of no_permit 64 all h.places.live h.places.spent h.table h.used i e b n q new refl p.live g)
-
-      pub permit_opened_wiped : Wiped (live_of p.live) (set h.table i new)
-      permit_opened_wiped = wiped_open (live_of h.places.live) (live_of p.live) h.table i new g (omega (arith, length_live h.places.live)) h.wiped
-
-      pub permit_given : (r : Permits) → r.places ≡ p → r.table ≡ set h.table i new → Gives h s (record { number = Some n; next = r })
-      unfolding permits_of
-      permit_given r c t =
-          record {
-            sound = permits_sound r;
-            number = words.number_given permit_turn owner_of no_permit 64 all h.places.live h.places.spent h.table h.used i e b n q;
-            permits =
-                ap (λ (p : Places). places_of permit_turn owner_of (live_of p.live) r.table) c
-                ∙ (ap (places_of permit_turn owner_of (live_of p.live)) t
-                ∙ words.opened_places permit_turn owner_of no_permit 64 all h.places.live h.places.spent h.table h.used i e b n q new refl p.live g);
-          }
-
-    pub permit_full : (s : ℕ) → 64 ≤ i → Gives h s (record { number = None; next = h })
+    pub permit_opened_used : p.spent ≡ h.places.spent → Used permit_turn 64 (live_of p.live) (live_of p.spent) (set h.table i new)
     unfolding permits_of
-    permit_full s b =
+    permit_opened_used z =
+        subst (λ (m : Live). Used permit_turn 64 (live_of p.live) (live_of m) (set h.table i new)) (sym z)
+        (words.opened_used permit_turn owner_of no_permit 64 all h.places.live h.places.spent h.table h.used i k b e new refl p.live g)
+
+    pub permit_opened_wiped : Wiped (live_of p.live) (set h.table i new)
+    permit_opened_wiped = wiped_open (live_of h.places.live) (live_of p.live) h.table i new g (omega (arith, length_live h.places.live)) h.wiped
+
+    pub permit_given : (n : ℕ) → n ≡ i + 64 * k → (r : Permits) → r.places ≡ p → r.table ≡ set h.table i new → Gives h s (record { number = Some n; next = r })
+    unfolding permits_of
+    permit_given n q r c t =
         record {
-          sound = permits_sound h;
-          number = words.none_left permit_turn owner_of no_permit 64 all h.places.live h.places.spent h.table h.used i e b;
-          permits = refl;
+          sound = permits_sound r;
+          number = ap Some q ∙ e;
+          permits =
+              ap (λ (p : Places). places_of permit_turn owner_of (live_of p.live) r.table) c
+              ∙ (ap (places_of permit_turn owner_of (live_of p.live)) t
+              ∙ (words.opened_places permit_turn owner_of no_permit 64 all h.places.live h.places.spent h.table h.used i k b e new refl p.live g
+              ∙ ap (λ (j : ℕ). put (permits_of h) j s) (sym q)));
         }
 
   module _ (n : ℕ) (is : is_live (lookup (permits_of h) n) ≡ true) (place turns : ℕ) (here : place ≡ n % 64) (on : turns ≡ n / 64) (p : Places) (g : live_of p.live ≡ set (live_of h.places.live) place false) (z : live_of p.spent ≡ spent_by (live_of h.places.spent) place (turns + 1)) where

@@ -1,3 +1,4 @@
+pub mod Vacancy
 pub mod PlaceLaws
 pub mod WordLaws
 pub mod Laws

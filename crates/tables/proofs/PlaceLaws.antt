@@ -4,21 +4,22 @@ use Rattle.std.specs.Prelude.{if◌then◌else◌}
 use mathlib.Core.Path.{◌≡◌, refl, sym, ap, ap₂, ◌∙◌, subst}
 use mathlib.Core.Bool.{Bool, true, false}
 use mathlib.Core.List.{List, [], ◌∷◌, map}
-use Rattle.std.specs.Prelude.{Option, None, Some}
+use Rattle.std.specs.Prelude.{None, Some}
 use Prim.Native.Nat.{ℕ, zero, suc, ◌+◌, ◌*◌, ◌/◌, ◌%◌, ◌<◌, ◌≤◌}
 use native.Mathlib.Omega.{arith}
 use native.Mathlib.Decide.{ℕ_discrete}
-use borrow.Author.Tests.{leb-true, leb-false, le-leb, lt-leb}
+use borrow.Author.Tests.{leb-true, leb-false, le-leb, lt-leb, lt-ltb, le-ltb}
 use lib.Arith.{le-zero}
-use lib.Dec.{leb}
+use lib.Dec.{leb, ltb}
 use lib.ListN.{length, get_or, set, replicate, length-set, length-map, length-replicate}
 use lib.Seq.{get_or-set_same, get_or-set_other, set-get_or}
 use Rattle.live.specs.Bits.{none_live, lowest_clear, either, count_live}
 use Rattle.live.specs.Table.{Within}
-use Rattle.live.proofs.Laws.{lowest_clear_lem, either_clear, live_below, within_none, within_with, within_without, within_tail, count_within}
-use Rattle.model.specs.Table.{vacant, holds, turn, at_turn, LAST_TURN, Table, blank, lookup, put, clear, lowest, one_more, live, size, each}
+use Rattle.live.proofs.Laws.{live_below, within_none, within_with, within_without, within_tail, count_within}
+use Rattle.model.specs.Table.{vacant, holds, turn, in_place, at_turn, LAST_TURN, Table, blank, lookup, put, clear, lowest, live, size, each}
 use Rattle.model.proofs.TableLaws.{on_turn_lem, off_turn}
-use Rattle.tables.specs.Places.{spent_by, turn_at, Used, place_at, places_of}
+use Rattle.tables.specs.Places.{spent_by, turn_at, Used, place_at, places_of, is_live}
+use Rattle.tables.proofs.Vacancy.{next_given, next_none}
 
 -- A NUMBER'S PARTS: the place and the turn that it was made of
 pub number_place : (i k : ℕ) → i < 64 → (i + 64 * k) % 64 ≡ i
@@ -39,18 +40,6 @@ module _ (spent : List Bool) (i k : ℕ) where
 
   pub spent_last : (r : List Bool) → LAST_TURN < k → r ≡ set spent i true → r ≡ spent_by spent i k
   spent_last r h e = e ∙ sym (ap (λ (t : Bool). if t then spent else set spent i true) (lt-leb k LAST_TURN h))
-
--- the next place's number
-next_place : (o : Option ℕ) (j k : ℕ) → o ≡ Some (j + k) → one_more o ≡ Some (suc j + k)
-next_place o j k e = let z : suc (j + k) ≡ suc j + k = omega arith in ap one_more e ∙ ap Some z
-
--- A VACANT PLACE at the head of a table is given, unless it is used up
-module _ {R : Type 0} (k : ℕ) (t : Table R) where
-  vacant_given : k ≤ LAST_TURN → lowest (vacant k ∷ t) ≡ Some (64 * k)
-  vacant_given h = ap (λ (b : Bool). if b then Some (64 * k) else one_more (lowest t)) (le-leb k LAST_TURN h)
-
-  vacant_spent : k ≡ suc LAST_TURN → lowest (vacant k ∷ t) ≡ one_more (lowest t)
-  vacant_spent e = ap (λ (b : Bool). if b then Some (64 * k) else one_more (lowest t)) (lt-leb k LAST_TURN (omega arith))
 
 -- THE TURNS of the places
 module _ {A : Type 0} (turn_of : A → ℕ) where
@@ -281,11 +270,6 @@ module _ {A R : Type 0} (turn_of : A → ℕ) (record_of : A → R) where
     pub places_clear : turn_of x ≡ suc (n / 64) → places_of turn_of record_of (set l (n % 64) false) (set xs (n % 64) x) ≡ clear (places_of turn_of record_of l xs) n
     places_clear e = places_set l xs (n % 64) false x ∙ ap (λ (k : ℕ). set (places_of turn_of record_of l xs) (n % 64) (vacant k)) e
 
-    pub places_write : get_or l (n % 64) false ≡ true → turn_of x ≡ n / 64 → places_of turn_of record_of l (set xs (n % 64) x) ≡ put (places_of turn_of record_of l xs) n (record_of x)
-    places_write q e =
-        let still : set l (n % 64) true ≡ l = ap (set l (n % 64)) (sym q) ∙ set-get_or l (n % 64) false in
-        ap (λ (w : List Bool). places_of turn_of record_of w (set xs (n % 64) x)) (sym still) ∙ places_put e
-
   -- no record is live, and none ever was
   never_used : (n limit : ℕ) (x : A) → turn_of x ≡ 0 → limit ≤ n → places_of turn_of record_of (replicate n false) (replicate limit x) ≡ blank limit
   unfolding places_of
@@ -298,60 +282,51 @@ module _ {A R : Type 0} (turn_of : A → ℕ) (record_of : A → R) where
   unfolding none_live
   places_blank limit x e h = never_used 64 limit x e h
 
-  -- THE NUMBER TO GIVE: the lowest place that is neither live nor used up, at its turn
-  used_tail : (limit : ℕ) (b c : Bool) (l m : List Bool) (x : A) (xs : List A) → Used turn_of (suc limit) (b ∷ l) (c ∷ m) (x ∷ xs) → Used turn_of limit l m xs
-  used_tail limit b c l m x xs u =
-      record {
-        sized = let h = u.sized in omega arith;
-        within = within_tail limit b l u.within;
-        bounded = within_tail limit c m u.bounded;
-        over = λ i. u.over (suc i);
-        left = λ i. u.left (suc i);
-      }
+  -- WHAT THE TWO WORDS TELL of each place: is it live, and is it used up
+  pub word_each : (l : List Bool) (xs : List A) (i : ℕ) → (length xs ≤ i → get_or l i false ≡ false)
+      → get_or l i false ≡ is_live (in_place (get_or (places_of turn_of record_of l xs) i (vacant 0)))
+  unfolding places_of
+  word_each [] xs i h = refl
+  word_each (b ∷ l) [] i h = h (omega arith)
+  word_each (true ∷ l) (x ∷ xs) zero h = refl
+  word_each (false ∷ l) (x ∷ xs) zero h = refl
+  word_each (b ∷ l) (x ∷ xs) (suc i) h = word_each l xs i (λ k. h (omega arith))
 
-  lowest_go : (d : A) (limit : ℕ) (l m : List Bool) (xs : List A) → Used turn_of limit l m xs → limit ≤ length l → limit ≤ length m → lowest_clear (either l m) < limit
-      → lowest (places_of turn_of record_of l xs) ≡ Some (lowest_clear (either l m) + 64 * turn_of (get_or xs (lowest_clear (either l m)) d))
-  unfolding places_of lowest_clear either
-  lowest_go d zero l m xs u p q h = absurd (omega arith)
-  lowest_go d (suc limit) [] m xs u p q h = absurd (omega arith)
-  lowest_go d (suc limit) (b ∷ l) [] xs u p q h = absurd (omega arith)
-  lowest_go d (suc limit) (b ∷ l) (c ∷ m) [] u p q h = absurd (let s = u.sized in omega arith)
-  lowest_go d (suc limit) (true ∷ l) (c ∷ m) (x ∷ xs) u p q h =
-      next_place (lowest (places_of turn_of record_of l xs)) (lowest_clear (either l m)) (64 * turn_of (get_or xs (lowest_clear (either l m)) d))
-      (lowest_go d limit l m xs (used_tail limit true c l m x xs u) (omega arith) (omega arith) (omega arith))
-  lowest_go d (suc limit) (false ∷ l) (true ∷ m) (x ∷ xs) u p q h =
-      vacant_spent (turn_of x) (places_of turn_of record_of l xs) (u.over 0 refl).1
-      ∙ next_place (lowest (places_of turn_of record_of l xs)) (lowest_clear (either l m)) (64 * turn_of (get_or xs (lowest_clear (either l m)) d))
-      (lowest_go d limit l m xs (used_tail limit false true l m x xs u) (omega arith) (omega arith) (omega arith))
-  lowest_go d (suc limit) (false ∷ l) (false ∷ m) (x ∷ xs) u p q h =
-      let first : 64 * turn_of x ≡ 0 + 64 * turn_of x = omega arith in
-      vacant_given (turn_of x) (places_of turn_of record_of l xs) (u.left 0 refl) ∙ ap Some first
+  turn_read : (l : List Bool) (xs : List A) (i : ℕ) → length xs ≤ length l → turn_at turn_of xs i ≡ turn (get_or (places_of turn_of record_of l xs) i (vacant 0))
+  unfolding places_of
+  turn_read [] [] i h = refl
+  turn_read [] (x ∷ xs) i h = absurd (omega arith)
+  turn_read (b ∷ l) [] i h = refl
+  turn_read (true ∷ l) (x ∷ xs) zero h = refl
+  turn_read (false ∷ l) (x ∷ xs) zero h = refl
+  turn_read (b ∷ l) (x ∷ xs) (suc i) h = turn_read l xs i (omega arith)
 
-  none_go : (limit : ℕ) (l m : List Bool) (xs : List A) → Used turn_of limit l m xs → limit ≤ length m → limit ≤ lowest_clear (either l m)
-      → lowest (places_of turn_of record_of l xs) ≡ None
-  unfolding places_of lowest_clear either
-  none_go limit [] m xs u q h = refl
-  none_go limit (b ∷ l) m [] u q h = refl
-  none_go zero (b ∷ l) m (x ∷ xs) u q h = absurd (let s = u.sized in omega arith)
-  none_go (suc limit) (b ∷ l) [] (x ∷ xs) u q h = absurd (omega arith)
-  none_go (suc limit) (true ∷ l) (c ∷ m) (x ∷ xs) u q h =
-      ap one_more (none_go limit l m xs (used_tail limit true c l m x xs u) (omega arith) (omega arith))
-  none_go (suc limit) (false ∷ l) (true ∷ m) (x ∷ xs) u q h =
-      vacant_spent (turn_of x) (places_of turn_of record_of l xs) (u.over 0 refl).1
-      ∙ ap one_more (none_go limit l m xs (used_tail limit false true l m x xs u) (omega arith) (omega arith))
-  none_go (suc limit) (false ∷ l) (false ∷ m) (x ∷ xs) u q h = absurd (omega arith)
+  module _ (limit : ℕ) (l m : List Bool) (xs : List A) (u : Used turn_of limit l m xs) (p : limit ≤ length l) where
+    pub word_over : (i : ℕ) → get_or m i false ≡ ltb LAST_TURN (turn (get_or (places_of turn_of record_of l xs) i (vacant 0)))
+    word_over i = go (get_or m i false) refl
+      where
+        same : turn_at turn_of xs i ≡ turn (get_or (places_of turn_of record_of l xs) i (vacant 0))
+        same = turn_read l xs i (omega (arith, u.sized))
 
-  module _ (limit : ℕ) (l m : List Bool) (xs : List A) (u : Used turn_of limit l m xs) (p : limit ≤ length l) (q : limit ≤ length m) where
-    module _ (i : ℕ) (e : i ≡ lowest_clear (either l m)) where
+        go : (b : Bool) → get_or m i false ≡ b → get_or m i false ≡ ltb LAST_TURN (turn (get_or (places_of turn_of record_of l xs) i (vacant 0)))
+        go true e = e ∙ sym (lt-ltb LAST_TURN (turn (get_or (places_of turn_of record_of l xs) i (vacant 0))) (omega (arith, (u.over i e).1, same)))
+        go false e = e ∙ sym (le-ltb LAST_TURN (turn (get_or (places_of turn_of record_of l xs) i (vacant 0))) (omega (arith, u.left i e, same)))
+
+    -- THE NUMBER TO GIVE: the lowest place that is neither live nor used up, at its turn
+    module _ (q : limit ≤ length m) (i : ℕ) (e : i ≡ lowest_clear (either l m)) where
+      wide : size (places_of turn_of record_of l xs) ≡ limit
+      wide = size_places l xs (omega (arith, u.sized)) ∙ u.sized
+
+      each_marked : (j : ℕ) → get_or l j false ≡ is_live (in_place (get_or (places_of turn_of record_of l xs) j (vacant 0)))
+      each_marked j = word_each l xs j (λ h. u.within j (omega (arith, u.sized)))
+
       pub lowest_given : (d : A) → i < limit → lowest (places_of turn_of record_of l xs) ≡ Some (i + 64 * turn_of (get_or xs i d))
-      lowest_given d h = lowest_go d limit l m xs u p q (omega arith) ∙ ap (λ (j : ℕ). Some (j + 64 * turn_of (get_or xs j d))) (sym e)
+      lowest_given d h =
+          next_given (places_of turn_of record_of l xs) l m (omega (arith, wide)) (omega (arith, wide)) each_marked word_over i e (omega (arith, wide))
+          ∙ ap (λ (k : ℕ). Some (i + 64 * k)) (turn_there l xs i d (omega (arith, u.sized)) (omega (arith, u.sized)))
 
       pub lowest_none : limit ≤ i → lowest (places_of turn_of record_of l xs) ≡ None
-      lowest_none h = none_go limit l m xs u q (omega arith)
-
-      -- the place given is not used up
-      pub given_unspent : i < limit → get_or m i false ≡ false
-      given_unspent h = (either_clear l m i (omega arith) (omega arith) (ap (λ (j : ℕ). get_or (either l m) j false) e ∙ lowest_clear_lem (either l m))).1
+      lowest_none h = next_none (places_of turn_of record_of l xs) l m (omega (arith, wide)) (omega (arith, wide)) each_marked word_over i e (omega (arith, wide))
 
   -- HOW MANY ARE LIVE: the live word's count
   pub live_places : (limit : ℕ) (l : List Bool) (xs : List A) → length xs ≡ limit → limit ≤ length l → Within limit l → live (places_of turn_of record_of l xs) ≡ count_live l

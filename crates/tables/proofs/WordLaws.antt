@@ -7,19 +7,24 @@ use Rattle.std.specs.Prelude.{Option, None, Some}
 use Prim.Native.Nat.{ℕ, suc, ◌+◌, ◌*◌, ◌/◌, ◌%◌, ◌<◌, ◌≤◌}
 use native.Mathlib.Omega.{arith}
 use lib.ListN.{length, get_or, set, get_or-eq_default}
+use Rattle.std.proofs.lemmas.Option.{none-some}
+use Rattle.model.proofs.TableLaws.{on_turn_lem, has_lowest, lowest_free, lowest_turn}
 use Rattle.live.specs.declared.Live.{Live}
-use Rattle.live.specs.Bits.{live_of, lowest_clear, either, count_live}
+use Rattle.live.specs.Bits.{live_of, count_live}
 use Rattle.live.proofs.Laws.{length_live, live_below}
-use Rattle.model.specs.Table.{LAST_TURN, vacant, turn, in_place, lookup, put, clear, lowest, live, size}
+use Rattle.model.specs.Table.{Table, vacant, turn, in_place, at_turn, lookup, put, clear, lowest, live, size}
 use Rattle.tables.specs.Places.{spent_by, turn_at, Used, places_of, is_live, Marks}
 use Rattle.tables.specs.declared.Places.{Places}
-use Rattle.tables.proofs.PlaceLaws.{number_place, number_turn, turn_at_lem, used_open, used_close, size_places, turn_there, place_live, place_vacant, Stands, stands, places_put, places_clear, lowest_given, lowest_none, given_unspent, live_places}
+use Rattle.tables.proofs.PlaceLaws.{number_place, number_turn, word_each, word_over, turn_at_lem, used_open, used_close, size_places, turn_there, place_live, place_vacant, Stands, stands, places_put, places_clear, live_places}
 
 live_some : {R : Type 0} (o : Option R) → is_live o ≡ true → (a : R) × (o ≡ Some a)
 live_some None e = let z : ◌≡◌ {A = ℕ} 0 1 = cc in absurd (omega arith)
 live_some (Some a) e = (a, refl)
 
 module _ {A R : Type 0} (turn_of : A → ℕ) (record_of : A → R) (d : A) (limit : ℕ) (few : limit ≤ 64) (w s : Live) (xs : List A) (u : Used turn_of limit (live_of w) (live_of s) xs) where
+  abbrev table : Table R
+  table = places_of turn_of record_of (live_of w) xs
+
   long : limit ≤ length (live_of w)
   long = omega (arith, length_live w)
 
@@ -43,14 +48,6 @@ module _ {A R : Type 0} (turn_of : A → ℕ) (record_of : A → R) (d : A) (lim
     pub vacant_in : b ≡ false → in_place (get_or (places_of turn_of record_of (live_of w) xs) i (vacant 0)) ≡ None
     vacant_in t = ap in_place (place_vacant turn_of record_of (live_of w) xs i (sym e ∙ t))
 
-  -- the word tells the live places
-  pub marks : Marks (live_of w) (places_of turn_of record_of (live_of w) xs)
-  marks = record { each = λ i. at i (get_or (live_of w) i false) refl; count = counted (count_live (live_of w)) refl }
-    where
-      at : (i : ℕ) (b : Bool) → get_or (live_of w) i false ≡ b → get_or (live_of w) i false ≡ is_live (in_place (get_or (places_of turn_of record_of (live_of w) xs) i (vacant 0)))
-      at i true e = e ∙ sym (ap is_live (live_in i true (sym e) refl))
-      at i false e = e ∙ sym (ap is_live (vacant_in i false (sym e) refl))
-
   -- the turn of a place, live or not: below the limit, and past it
   module _ (i : ℕ) where
     pub turn_below : i < limit → turn_of (get_or xs i d) ≡ turn (get_or (places_of turn_of record_of (live_of w) xs) i (vacant 0))
@@ -59,38 +56,65 @@ module _ {A R : Type 0} (turn_of : A → ℕ) (record_of : A → R) (d : A) (lim
     pub turn_past : limit ≤ i → 0 ≡ turn (get_or (places_of turn_of record_of (live_of w) xs) i (vacant 0))
     turn_past h = sym (ap turn (get_or-eq_default (places_of turn_of record_of (live_of w) xs) (vacant 0) {n = i} (omega (arith, wide))))
 
-  -- a record opens at the place that the two words give
-  module _ (i : ℕ) (e : i ≡ lowest_clear (either (live_of w) (live_of s))) where
-    pub none_left : limit ≤ i → None ≡ lowest (places_of turn_of record_of (live_of w) xs)
-    none_left h = sym (lowest_none turn_of record_of limit (live_of w) (live_of s) xs u long beside i e h)
+  -- the words tell of each place whether it is live, and whether it is used up
+  pub marks : Marks limit (live_of w) (live_of s) table
+  marks =
+      record {
+        few = few;
+        sized = wide;
+        each = λ i. word_each turn_of record_of (live_of w) xs i (λ h. u.within i (omega (arith, u.sized)));
+        over = word_over turn_of record_of limit (live_of w) (live_of s) xs u long;
+        count = counted (count_live (live_of w)) refl;
+      }
 
-    module _ (h : i < limit) where
-      free : get_or (live_of s) i false ≡ false
-      free = given_unspent turn_of record_of limit (live_of w) (live_of s) xs u long beside i e h
+  -- a record opens at the place of the lowest number that can be given, at its turn
+  module _ (i k : ℕ) (h : i < limit) (e : Some (i + 64 * k) ≡ lowest table) where
+    place : (i + 64 * k) % 64 ≡ i
+    place = number_place i k (omega arith)
 
-      turn_here : turn_at turn_of xs i ≡ turn_of (get_or xs i d)
-      turn_here = turn_at_lem turn_of xs i d (omega (arith, u.sized))
+    turns : (i + 64 * k) / 64 ≡ k
+    turns = number_turn i k (omega arith)
 
-      pub turn_left : turn_of (get_or xs i d) ≤ LAST_TURN
-      turn_left = omega (arith, u.left i free, turn_here)
+    turn_stands : turn (get_or table i (vacant 0)) ≡ k
+    turn_stands = ap (λ (j : ℕ). turn (get_or table j (vacant 0))) (sym place) ∙ ((has_lowest table (i + 64 * k) (omega (arith, wide)) (sym e)).on_turn ∙ turns)
 
-      module _ (n : ℕ) (q : n ≡ i + 64 * turn_of (get_or xs i d)) where
-        pub number_given : Some n ≡ lowest (places_of turn_of record_of (live_of w) xs)
-        number_given = sym (lowest_given turn_of record_of limit (live_of w) (live_of s) xs u long beside i e d h ∙ ap Some (sym q))
+    pub turn_found : turn_of (get_or xs i d) ≡ k
+    turn_found = turn_below i h ∙ turn_stands
 
-        module _ (x : A) (k : turn_of x ≡ turn_of (get_or xs i d)) (r : Live) (g : live_of r ≡ set (live_of w) i true) where
-          pub opened_used : Used turn_of limit (live_of r) (live_of s) (set xs i x)
-          opened_used =
-              subst (λ (l : List Bool). Used turn_of limit l (live_of s) (set xs i x)) (sym g)
-              (used_open turn_of limit (live_of w) (live_of s) xs u i x h free (k ∙ sym turn_here))
+    turn_here : turn_at turn_of xs i ≡ k
+    turn_here = turn_at_lem turn_of xs i d (omega (arith, u.sized)) ∙ turn_found
 
-          pub opened_places : places_of turn_of record_of (live_of r) (set xs i x) ≡ put (places_of turn_of record_of (live_of w) xs) n (record_of x)
-          opened_places =
-              let place : n % 64 ≡ i = ap (λ (m : ℕ). m % 64) q ∙ number_place i (turn_of (get_or xs i d)) (omega arith) in
-              let turn : n / 64 ≡ turn_of (get_or xs i d) = ap (λ (m : ℕ). m / 64) q ∙ number_turn i (turn_of (get_or xs i d)) (omega arith) in
-              ap (λ (l : List Bool). places_of turn_of record_of l (set xs i x)) g
-              ∙ (ap (λ (j : ℕ). places_of turn_of record_of (set (live_of w) j true) (set xs j x)) (sym place)
-              ∙ places_put turn_of record_of (live_of w) xs n x (k ∙ sym turn))
+    -- nothing is live there, and the place is not used up
+    pub not_live : get_or (live_of w) i false ≡ false
+    not_live = go (get_or (live_of w) i false) refl
+      where
+        none : in_place (get_or table i (vacant 0)) ≡ None
+        none =
+            sym (on_turn_lem k (get_or table i (vacant 0)) (sym turn_stands))
+            ∙ (ap₂ (λ (c j : ℕ). at_turn c (get_or table j (vacant 0))) (sym turns) (sym place) ∙ lowest_free table (i + 64 * k) (omega (arith, wide)) (sym e))
+
+        go : (b : Bool) → get_or (live_of w) i false ≡ b → b ≡ false
+        go false q = refl
+        go true q = absurd (none-some _ (sym none ∙ live_in i true (sym q) refl))
+
+    pub not_spent : get_or (live_of s) i false ≡ false
+    not_spent = go (get_or (live_of s) i false) refl
+      where
+        go : (b : Bool) → get_or (live_of s) i false ≡ b → b ≡ false
+        go false q = refl
+        go true q = absurd (omega (arith, (u.over i q).1, turn_here, turns, lowest_turn table (i + 64 * k) (omega (arith, wide)) (sym e)))
+
+    module _ (x : A) (kept : turn_of x ≡ k) (r : Live) (g : live_of r ≡ set (live_of w) i true) where
+      pub opened_used : Used turn_of limit (live_of r) (live_of s) (set xs i x)
+      opened_used =
+          subst (λ (l : List Bool). Used turn_of limit l (live_of s) (set xs i x)) (sym g)
+          (used_open turn_of limit (live_of w) (live_of s) xs u i x h not_spent (kept ∙ sym turn_here))
+
+      pub opened_places : places_of turn_of record_of (live_of r) (set xs i x) ≡ put table (i + 64 * k) (record_of x)
+      opened_places =
+          ap (λ (l : List Bool). places_of turn_of record_of l (set xs i x)) g
+          ∙ (ap (λ (j : ℕ). places_of turn_of record_of (set (live_of w) j true) (set xs j x)) (sym place)
+          ∙ places_put turn_of record_of (live_of w) xs (i + 64 * k) x (kept ∙ sym turns))
 
   -- a live record closes
   module _ (n : ℕ) (is : is_live (lookup (places_of turn_of record_of (live_of w) xs) n) ≡ true) where

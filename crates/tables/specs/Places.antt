@@ -1,9 +1,9 @@
 -- AN ARRAY OF RECORDS WITH ITS TWO WORDS. A record carries its own turn, live or not: how many turns of its place are over. The one word tells
 -- which places are live, the other which are used up. Their meaning is the definition's table, in which only a live record shows.
 -- One definition for every kind of record. Assumes nothing.
-use Rattle.std.specs.Prelude.{Bool, true, false, Option, None, Some, List, [], ◌∷◌, map, ◌≡◌, ℕ, suc, ◌≤◌, leb, length, get_or, set, if◌then◌else◌}
+use Rattle.std.specs.Prelude.{Bool, true, false, Option, None, Some, List, [], ◌∷◌, map, ◌≡◌, ℕ, suc, ◌≤◌, leb, ltb, length, get_or, set, if◌then◌else◌}
 use Rattle.live.specs.Table.{Within}
-use Rattle.model.specs.Table.{Place, vacant, holds, in_place, Table, LAST_TURN, live}
+use Rattle.model.specs.Table.{Place, vacant, holds, turn, in_place, Table, LAST_TURN, live, size}
 use Rattle.live.specs.Bits.{count_live}
 
 -- the places that are used up, once k turns of the place i are over
@@ -41,7 +41,11 @@ abbrev pub is_live : {A : Type 0} → Option A → Bool
 is_live None = false
 is_live (Some a) = true
 
--- THE WORD OF A TABLE'S LIVE PLACES tells of each place whether it holds a record, and as many are set as there are records
-pub record Marks {R : Type 0} (word : List Bool) (t : Table R) : Type 0 where
+-- THE TWO WORDS OF A TABLE'S PLACES, of which there are no more than bits in a word. The one tells of each place whether it holds a record, and as
+-- many are set as there are records; the other, whether its last turn is over.
+pub record Marks {R : Type 0} (limit : ℕ) (word spent : List Bool) (t : Table R) : Type 0 where
+  pub few : limit ≤ 64
+  pub sized : size t ≡ limit
   pub each : (i : ℕ) → get_or word i false ≡ is_live (in_place (get_or t i (vacant 0)))
+  pub over : (i : ℕ) → get_or spent i false ≡ ltb LAST_TURN (turn (get_or t i (vacant 0)))
   pub count : count_live word ≡ live t

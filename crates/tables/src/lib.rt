@@ -5,19 +5,21 @@
 // name on that (specs/Calls.antt).
 #![tactic(auto)]
 
-ghost use Rattle.std.specs.Prelude.{◌≡◌, ℕ, ⊤, true, false, ◌+◌, ◌*◌, ◌/◌, ◌%◌, ◌<◌, ◌≤◌, get_or, set};
+ghost use Rattle.std.specs.Prelude.{◌≡◌, ℕ, ⊤, true, false, ◌+◌, ◌*◌, ◌/◌, ◌%◌, ◌<◌, ◌≤◌, get_or, set, option_map};
 ghost use Rattle.live.specs.Bits.{live_of, none_live, lowest_clear, either, count_live};
 ghost use Rattle.model.specs.Table as model;
-ghost use Rattle.model.specs.Table.{Table, vacant, turn, in_place, lookup, was_closed, live, of, sum};
+ghost use Rattle.model.specs.Table.{Table, vacant, turn, in_place, lookup, was_closed, lowest, live, of, sum};
 ghost use Rattle.tables.specs.Places.{spent_by, Used, is_live, Marks};
+ghost use Rattle.tables.specs.Numbers.{numbered, Fits};
 ghost use Rattle.tables.specs.Records.{no_handle, handle_turn, no_permit, permit_turn, Wiped};
 
 use live::Live;
 
-// The last turn of a place: its numbers are the last that fit.
+// The last turn of a place, 2 ^ 26 - 1: its numbers are the last that fit.
 pub const LAST_TURN: u32 = 67108863;
 
-// What a record's number says: its place, and how many turns of that place were over when it was given.
+// What a record's number says: its place, and how many turns of that place were over when it was given. A place is cast to the array's index where
+// it is used: no `From` makes a usize of a u32.
 #[derive(Clone, Copy)]
 pub struct Number {
     pub place: u32,
@@ -35,7 +37,7 @@ impl From<u32> for Number {
     }
 }
 
-// The number of a record at a place and a turn.
+// The number of a record at a place and a turn. A function and no `From<Number>`, which could not ask that the number fits.
 pub fn number_at(place: u32, turn: u32) -> u32
     requires place_bound { place < 64 }
     requires turn_bound { turn ≤ model.LAST_TURN }
@@ -63,7 +65,7 @@ impl Places {
         }
     }
 
-    // The lowest place that is not live and has a turn left; 64 where there is none.
+    // The lowest place that is not live and has a turn left; 64 where there is none. No `Option`: `vacancy` asks for the kind's limit, and that tells both.
     pub fn lowest_free(self) -> u32
         ensures { result ≡ lowest_clear (either (live_of self.live) (live_of self.spent)) }
     {
@@ -110,50 +112,64 @@ pub struct Opened<T> {
     pub next: T,
 }
 
-// A table of numbered records. Each kind says which of its places are live and how many turns of a place are over; what a number says of the
-// table follows from these two, once for every kind.
+// A table of numbered records. Each kind says which of its places are live and which are used up, and how many turns of a place are over; what a
+// number says of the table, and which place is given next, follows from these, once for every kind. A trait, and no one struct over the type of its
+// records, since an array of a type parameter would owe its size at every call: so each kind opens and closes its records itself.
 pub trait Numbered: Copy {
-    // What a live record shows, the definition's table, and what a table keeps where its type does not say so already.
+    // How many places there are.
+    const LIMIT: u32;
+
+    ghost LIMIT: { ℕ };
+
+    // What a live record shows, and the definition's table.
     ghost Shown: { Type 0 };
 
     ghost table_of: { Self → Table Shown };
 
-    ghost kept: { Self → Type 0 } = { λ _. ⊤ };
-
-    // The word of the live places.
-    fn live_places(self) -> Live
-        requires { kept self }
-        ensures { Marks (live_of result) (table_of self) };
+    // The two words of the places: which are live, and which are used up.
+    fn words(self) -> Places
+        ensures { Marks LIMIT (live_of result.live) (live_of result.spent) (table_of self) };
 
     // How many turns of a place are over: the turn of the record that is live there, or of the next one. A place past the limit has none.
     fn turn_at(self, place: u32) -> u32
-        requires { kept self }
         ensures { result ≡ turn (get_or (table_of self) place (vacant 0)) };
 
     // A number is live where its place is, at the number's turn.
     fn has(self, n: u32) -> bool
-        requires { kept self }
         ensures { result ≡ is_live (lookup (table_of self) n) }
     {
         let number = Number::from(n);
-        self.live_places().has(number.place) && self.turn_at(number.place) == number.turn
+        self.words().live.has(number.place) && self.turn_at(number.place) == number.turn
     }
 
     // Was a number given, and is it closed? Then its place has gone past its turn. A place past the limit was never given.
     fn closed(self, n: u32) -> bool
-        requires { kept self }
         ensures { result ≡ was_closed (table_of self) n }
     {
         let number = Number::from(n);
         number.turn < self.turn_at(number.place)
     }
 
+    // The place that the next record gets, at its turn: the lowest that is not live and has a turn left. None where there is no such place.
+    fn vacancy(self) -> Option<Number>
+        ensures lowest { option_map numbered result ≡ lowest (table_of self) }
+        ensures fits { Fits LIMIT result }
+    {
+        let place = self.words().lowest_free();
+        if place < Self::LIMIT {
+            return Some(Number {
+                place,
+                turn: self.turn_at(place),
+            });
+        }
+        None
+    }
+
     // How many records are live.
     fn count(self) -> u32
-        requires { kept self }
         ensures { result ≡ live (table_of self) }
     {
-        self.live_places().count()
+        self.words().live.count()
     }
 }
 
@@ -199,12 +215,16 @@ impl Numbered for Handles {
     ghost use Rattle.model.specs.Queue.{Mark};
     ghost use Rattle.tables.specs.Meaning.{handles_of};
 
+    const LIMIT: u32 = Handle::LIMIT;
+
+    ghost LIMIT = { 16 };
+
     ghost Shown = { Mark };
 
     ghost table_of = { handles_of };
 
-    fn live_places(self) -> Live {
-        self.places.live
+    fn words(self) -> Places {
+        self.places
     }
 
     fn turn_at(self, place: u32) -> u32 {
@@ -233,22 +253,21 @@ impl Handles {
     pub fn open(mut self) -> Opened<Handles>
         ensures { Clones self result }
     {
-        let place = self.places.lowest_free();
-        if place >= Handle::LIMIT {
+        let Some(Number { place, turn }) = self.vacancy() else {
             return Opened {
                 number: None,
                 next: self,
             };
-        }
-        let number = number_at(place, self.table[place as usize].turn);
+        };
         self.places = self.places.opened(place);
         Opened {
-            number: Some(number),
+            number: Some(number_at(place, turn)),
             next: self,
         }
     }
 
-    // A live handle goes, and one more turn of its place is over.
+    // A live handle goes, and one more turn of its place is over. Each kind has a `close` of its own: what it leaves in the record is its own, and the
+    // rest is shared as it stands, `Number::from` and `closed` of its places.
     pub fn close(mut self, n: u32) -> Handles
         requires { is_live (lookup (handles_of self) n) ≡ true }
         ensures { Leaves self n result }
@@ -274,12 +293,16 @@ impl Permit {
 impl Numbered for Permits {
     ghost use Rattle.tables.specs.Meaning.{permits_of};
 
+    const LIMIT: u32 = Permit::LIMIT;
+
+    ghost LIMIT = { 64 };
+
     ghost Shown = { ℕ };
 
     ghost table_of = { permits_of };
 
-    fn live_places(self) -> Live {
-        self.places.live
+    fn words(self) -> Places {
+        self.places
     }
 
     fn turn_at(self, place: u32) -> u32 {
@@ -308,14 +331,12 @@ impl Permits {
     pub fn open(mut self, owner: u32) -> Opened<Permits>
         ensures { Gives self owner result }
     {
-        let place = self.places.lowest_free();
-        if place >= Permit::LIMIT {
+        let Some(Number { place, turn }) = self.vacancy() else {
             return Opened {
                 number: None,
                 next: self,
             };
-        }
-        let turn = self.table[place as usize].turn;
+        };
         self.table[place as usize] = Permit { owner, turn };
         self.places = self.places.opened(place);
         Opened {
@@ -345,7 +366,7 @@ impl Permits {
         self.places.live.has(place) && owner == self.table[place as usize].owner
     }
 
-    // How many belong to a sender.
+    // How many belong to a sender: 64 at most, so the cast loses nothing.
     pub fn owned_by(self, owner: u32) -> u32
         ensures { result ≡ sum (belongs owner) (permits_of self) }
     {

@@ -12,6 +12,7 @@ use Rattle.waitlist.proofs.Laws.{map_same}
 use Rattle.waitlist.proofs.Segs.{same_id, no_id}
 use Rattle.waitlist.proofs.One.{Same}
 use native.Mathlib.Decide.{ℕ_discrete}
+use Rattle.wakes.proofs.Steps.{tokens_count}
 use Rattle.wakes.specs.declared.CalledOut.{CalledOut}
 use Rattle.wakes.specs.declared.tokens.Wakes.{Wakes}
 use Rattle.wakes.specs.Tokens.{tokens_of}
@@ -50,11 +51,11 @@ module _ (v w : WaitList) (s : Same v w) where
                 ∙ (s.holds k ∙ sym (q.there k (λ z. h (same_id k id.0.0 (sym z ∙ (sym who ∙ e))))))
           ]
 
-  pub wake_one : (r t : Wakes) → WakesAll v r → WakesAll w t → (tokens_of r ≡ tokens_of t) × (length (tokens_of r) ≡ length (tokens_of t))
+  pub wake_one : (r t : Wakes) → WakesAll v r → WakesAll w t → (tokens_of r ≡ tokens_of t) × (r.count ≡ t.count)
   unfolding along
   wake_one r t p q = (
     p.tokens
         ∙ (ap (map (λ (k : ℕ). token_of (held v k))) s.lines
         ∙ (map_same (λ (k : ℕ). token_of (held v k)) (λ (k : ℕ). token_of (held w k)) (line w) (λ k _. ap token_of (s.holds k)) ∙ sym q.tokens)),
-    p.number ∙ (ap length s.lines ∙ sym q.number),
+    sym (tokens_count r) ∙ (p.number ∙ (ap length s.lines ∙ (sym q.number ∙ tokens_count t))),
   )

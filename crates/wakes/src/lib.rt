@@ -4,7 +4,6 @@
 
 ghost use Rattle.std.specs.Prelude.{◌≡◌};
 ghost use Rattle.waitlist.specs.View.{token_of};
-ghost use Rattle.waitlist.specs.Sound.{Sound};
 ghost use Rattle.wakes.specs.Calls.{CallsFirst, WakesAll};
 
 use arena::{Arena, Waiter, WaiterId};
@@ -14,7 +13,7 @@ mod tokens;
 
 pub use tokens::Wakes;
 
-// Who was called and what it held; with no id the line was empty.
+// Who was called, for the promise alone, and what it held; neither where the line was empty.
 #[derive(Clone, Copy)]
 pub struct CalledOut {
     pub who: Option<WaiterId>,
@@ -22,7 +21,7 @@ pub struct CalledOut {
     pub list: WaitList,
 }
 
-// A waiter that was called already has no token left to wake.
+// The token of a waiter; 0 where it was called already, as no waiter in a side's line was.
 fn token(held: Option<Held>) -> u32
     ensures { result ≡ token_of held }
 {
@@ -39,7 +38,6 @@ fn token(held: Option<Held>) -> u32
 
 // The first in line is detached and marked as called: notify_one and grant_one.
 pub fn call_first(list: WaitList) -> CalledOut
-    requires { Sound list }
     ensures { CallsFirst list result }
 {
     let first = list.unlink_first();
@@ -57,9 +55,8 @@ pub fn call_first(list: WaitList) -> CalledOut
     }
 }
 
-// The tokens of a line that is given up, in order.
+// The tokens of a line that is given up, in order. A loop has to end, so its turns are counted: a line has no more waiters than the arena has slots.
 pub fn wake_all(list: WaitList) -> Wakes
-    requires { Sound list }
     ensures { WakesAll list result }
 {
     let mut left = list;

@@ -1,5 +1,5 @@
 // The tokens that a call wakes: never more than a line has places, so they stand in a fixed array.
-ghost use Rattle.std.specs.Prelude.{◌≤◌};
+ghost use Rattle.std.specs.Prelude.{◌≡◌, ◌≤◌, length};
 
 use arena::Arena;
 
@@ -9,6 +9,7 @@ use arena::Arena;
 pub struct Wakes {
     tokens: [u32; Arena::SLOTS],
     count: usize,
+    ghost sized: { length tokens ≡ 32 },
     ghost within: { count ≤ 32 },
 }
 

@@ -3,5 +3,5 @@ use Rattle.std.proofs.Common.{rules}
 use Rattle.queue.proofs.Sending.{still_open}
 use Rattle.queue.proofs.Queue.complete.Goals as goal
 
-pub end-self-requires-clause-opened : goal.end-self-requires-clause-opened
-end-self-requires-clause-opened c = search (rules, still_open)
+pub end-self-requires : goal.end-self-requires
+end-self-requires c = search (rules, still_open)

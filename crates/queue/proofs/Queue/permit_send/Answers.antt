@@ -2,8 +2,8 @@
 use Rattle.queue.proofs.Sending.{room_permit, permit_gone, permit_sent}
 use Rattle.queue.proofs.Queue.permit_send.Goals as goal
 
-pub push-woken-requires-clause-room : goal.push-woken-requires-clause-room
-push-woken-requires-clause-room c = room_permit _ c.requires _ _ c.in-Ok.ensures _ c.count.ensures c.if-count-eq0.false
+pub push-requires : goal.push-requires
+push-requires c = room_permit _ c.requires _ _ c.in-Ok.ensures _ c.count.ensures c.if-count-eq0.false
 
 pub returns-then-count-eq0 : goal.returns-then-count-eq0
 returns-then-count-eq0 c = search (permit_gone, c.in-Ok.ensures)

@@ -5,8 +5,8 @@ use Rattle.queue.proofs.Queue.try_send.Goals as goal
 pub less-self-requires : goal.less-self-requires
 less-self-requires c = slot_free _ _ _ _ c.in-Ok.ensures
 
-pub push-woken-requires-clause-room : goal.push-woken-requires-clause-room
-push-woken-requires-clause-room c = room_sent _ _ _ _ c.in-Ok.ensures c.requires
+pub push-requires : goal.push-requires
+push-requires c = room_sent _ _ _ _ c.in-Ok.ensures c.requires
 
 pub returns-in-Err : goal.returns-in-Err
 returns-in-Err c = search (try_send_refused, c.in-Err.ensures)

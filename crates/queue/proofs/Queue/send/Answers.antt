@@ -1,0 +1,6 @@
+-- Assumes nothing.
+use Rattle.queue.proofs.Settled.{gives}
+use Rattle.queue.proofs.Queue.send.Goals as goal
+
+pub returns : goal.returns
+returns c = search gives
