@@ -104,7 +104,7 @@ impl From<queue::Answer> for Reply {
 }
 
 impl Reply {
-    // An answer with a code alone.
+    // An answer with a code alone: a number, as it is printed, since no answer of a queue has the code of a bad line.
     pub(crate) fn bare(code: u32) -> Reply
         ensures { result ≡ bare code }
     {

@@ -61,7 +61,7 @@ impl Output<'_> {
     }
 
     // An answer's field. A status of five counts, as the definition's answer has them, is that of an unbounded queue: `-` stands in the place of
-    // its free room.
+    // its free room. The code is a number here, as it is printed.
     fn field(&mut self, code: u32, field: &[u32])
         requires { self.old.end + 21 * length field.now + 3 ≤ length self.old.buffer.now }
         ensures adds { Adds self.old self.new (field_text code field.now) }

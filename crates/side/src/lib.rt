@@ -38,6 +38,7 @@ pub struct Op {
 const _: () = prove!(size_of::<Op>() == 16);
 
 // Both ends are numbers that calls look at, the line's head and the words of the places, so that what lies between is copied in one piece.
+// The records stand in a fixed array: there is no heap, and a side is copied by value. A place is cast to its index (`tables::Number` says why).
 // Every side is sound. The fact is truncated, for it tells, as values, which waiter the node of an operation holds, and a ghost field may hold no
 // more than that it is so; the lemma `sound_of` (proofs/Kept.antt) reads those values off the nodes.
 #[derive(Clone, Copy)]

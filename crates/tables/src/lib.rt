@@ -178,6 +178,7 @@ pub struct Handle {
     turn: u32,
 }
 
+// The records stand in a fixed array, here and of permits: there is no heap, and a table is copied by value.
 #[derive(Clone, Copy)]
 pub struct Handles {
     table: [Handle; 16],
@@ -239,7 +240,7 @@ impl Handles {
     ghost use Rattle.tables.specs.Meaning.{handles_of};
     ghost use Rattle.tables.specs.Calls.{NoHandles, Clones, Leaves};
 
-    // No handle is live, and none was.
+    // No handle is live, and none was. (Each kind has a `fresh` of its own, for its array and its blank record are its own.)
     pub fn fresh() -> Handles
         ensures { NoHandles result }
     {
