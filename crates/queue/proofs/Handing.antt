@@ -3,7 +3,7 @@ use Prim.Native.Nat.{ℕ}
 use mathlib.Core.Path.{◌≡◌, refl, sym, ap, ◌∙◌, subst}
 use mathlib.Core.Bool.{Bool, true, false}
 use mathlib.Core.List.{[], ◌∷◌}
-use Rattle.std.specs.Prelude.{if◌then◌else◌, Option, None, Some, Result, Ok, Err, OnErr}
+use Rattle.std.specs.Prelude.{eqb, ltb, if◌then◌else◌, Option, None, Some, Result, Ok, Err, OnErr}
 use native.Mathlib.Omega.{arith}
 use lib.ListN.{length}
 use mir.Val.{Fits}
@@ -21,12 +21,27 @@ use Rattle.queue.specs.declared.Error.{Error}
 use Rattle.queue.specs.declared.Success.TheVariants.{Done, Discarded}
 use Rattle.queue.specs.declared.Answer.{Answer}
 use Rattle.queue.specs.Meaning.{queue_of, Sound}
-use Rattle.queue.specs.Answers.{code_of, field_of}
+use Rattle.model.specs.declared.Call.{Call}
+use Rattle.queue.specs.Answers.{Told, code_of, field_of}
 use Rattle.queue.specs.Promise.{Turned}
 use Rattle.queue.specs.Steps.{Says, number_told, Does, live_by, live_in, cloned, put_given, ClonesIn, closable, ClosesIn, silenced, discarded}
 use Rattle.queue.proofs.Settled.{does, gives, moves, decided, refuses, follows, on_the_way, with_senders, with_receivers, none_left, some_left}
 
--- ---- clone_s, clone_r: of either table, which `set` puts into the queue
+-- ---- the handles of one kind: their table, and how a table is put into the queue and into the definition's
+pub record HandleKind (q : Queue) : Type 0 where
+  pub table : Handles
+  pub with_table : Handles → Queue
+  pub set : Table model.Mark → model.Queue
+  pub puts : (h : Handles) → queue_of (with_table h) ≡ set (handles_of h)
+  pub whole : with_table table ≡ q
+
+abbrev pub senders_of : (q : Queue) → HandleKind q
+senders_of q = record { table = q.senders; with_table = λ h. with_senders h q; set = λ x. model.set_senders x (queue_of q); puts = λ h. refl; whole = refl }
+
+abbrev pub receivers_of : (q : Queue) → HandleKind q
+receivers_of q = record { table = q.receivers; with_table = λ h. with_receivers h q; set = λ x. model.set_receivers x (queue_of q); puts = λ h. refl; whole = refl }
+
+-- ---- clone_s, clone_r
 module _ (q : model.Queue) (set : Table model.Mark → model.Queue) (t : Table model.Mark) (e : set t ≡ q) where
   cloned_by : (o : Option model.Mark) (closed : Bool) (l : Option ℕ)
       → model.reply (code_of (number_told (cloned (live_by o closed) l))) (field_of (number_told (cloned (live_by o closed) l))) [] [] (set (put_given (cloned (live_by o closed) l) tt t))
@@ -42,32 +57,30 @@ module _ (q : model.Queue) (set : Table model.Mark → model.Queue) (t : Table m
       ap (λ (x : Table model.Mark). model.reply (code_of (number_told r)) (field_of (number_told r)) [] [] (set x)) g
       ∙ (ap (λ (x : Result ℕ Error). model.reply (code_of (number_told x)) (field_of (number_told x)) [] [] (set (put_given x tt t))) f ∙ cloned_by (lookup t s) (was_closed t s) (lowest t))
 
+module _ {q : Queue} (k : HandleKind q) (snd : Sound q) (c : Call) (s : ℕ) (r : Result ℕ Error) (h : Handles) (a : Answer) where
+  on_error : (x : Result ℕ Error) → OnErr x (h ≡ k.table) → OnErr x (k.with_table h ≡ q)
+  on_error (Ok n) e = tt
+  on_error (Err y) e = ap k.with_table e ∙ k.whole
+
+  clone_turn : step c (queue_of q) ≡ model.need (handles_of k.table) s (queue_of q) (λ _. model.give (handles_of k.table) (queue_of q) (λ n. model.reply model.GIVEN (n ∷ []) [] [] (k.set (put (handles_of k.table) n tt))))
+      → Says (number_told r) [] [] a → ClonesIn k.table s r h → Turned q c a (k.with_table h)
+  clone_turn is u d =
+      gives q c r a (k.with_table h) snd
+      (record {
+        is =
+            ap (model.reply (code_of (number_told r)) (field_of (number_told r)) [] []) (k.puts h)
+            ∙ (cloned_is (queue_of q) k.set (handles_of k.table) (sym (k.puts k.table) ∙ ap queue_of k.whole) s r (handles_of h) d.number d.table ∙ sym is);
+        same = on_error r d.same;
+      }) u
+
 module _ (q : Queue) (snd : Sound q) (s : ℕ) (r : Result ℕ Error) (h : Handles) (a : Answer) (u : Says (number_told r) [] [] a) where
   pub clone_s_turn : ClonesIn q.senders s r h → Turned q (CloneS s) a (with_senders h q)
   unfolding step clone_s
-  clone_s_turn k =
-      gives q (CloneS s) r a (with_senders h q) snd
-      (record {
-        is = cloned_is (queue_of q) (λ x. model.set_senders x (queue_of q)) (handles_of q.senders) refl s r (handles_of h) k.number k.table;
-        same = same_err r k.same;
-      }) u
-    where
-      same_err : (x : Result ℕ Error) → OnErr x (h ≡ q.senders) → OnErr x (with_senders h q ≡ q)
-      same_err (Ok n) e = tt
-      same_err (Err y) e = ap (λ (i : Handles). with_senders i q) e
+  clone_s_turn = clone_turn (senders_of q) snd (CloneS s) s r h a refl u
 
   pub clone_r_turn : ClonesIn q.receivers s r h → Turned q (CloneR s) a (with_receivers h q)
   unfolding step clone_r
-  clone_r_turn k =
-      gives q (CloneR s) r a (with_receivers h q) snd
-      (record {
-        is = cloned_is (queue_of q) (λ x. model.set_receivers x (queue_of q)) (handles_of q.receivers) refl s r (handles_of h) k.number k.table;
-        same = same_err r k.same;
-      }) u
-    where
-      same_err : (x : Result ℕ Error) → OnErr x (h ≡ q.receivers) → OnErr x (with_receivers h q ≡ q)
-      same_err (Ok n) e = tt
-      same_err (Err y) e = ap (λ (i : Handles). with_receivers i q) e
+  clone_r_turn = clone_turn (receivers_of q) snd (CloneR s) s r h a refl u
 
 -- ---- drop_s, drop_r: the test, and what follows
 close_is : {A : Type 0} (go : model.Result) (o : Option A) (closed busy : Bool) (q : model.Queue)
@@ -77,74 +90,76 @@ close_is go None false busy q = refl
 close_is go (Some a) closed true q = refl
 close_is go (Some a) closed false q = refl
 
-abbrev dropped_s : model.Queue → model.Result
-dropped_s q = if model.no_sender q then silenced q else model.reply model.DONE [] [] [] q
+-- A handle leaves by the call c: of which kind, whether a record keeps it busy, what the last one leaves, and what is told of any other.
+pub record Leaving (q : Queue) (c : Call) (s : ℕ) : Type 0 where
+  pub kind : HandleKind q
+  pub owns : Bool
+  pub last : model.Queue → model.Result
+  pub told : Told
+  pub last_no_refusal : (m : model.Queue) → ltb (last m).ans.code 20 ≡ true
+  pub told_no_refusal : ltb (code_of told) 20 ≡ true
+  pub is : decided (λ (u : Unit {0}). if eqb (live (clear (handles_of kind.table) s)) 0 then last (kind.set (clear (handles_of kind.table) s)) else model.reply (code_of told) (field_of told) [] [] (kind.set (clear (handles_of kind.table) s))) (closable (live_in (handles_of kind.table) s) owns) (queue_of q) ≡ step c (queue_of q)
 
-abbrev dropped_r : model.Queue → model.Result
-dropped_r q = if model.no_receiver q then discarded q else model.reply model.DONE (0 ∷ []) [] [] q
-
-drop_s_is : (s : ℕ) (q : model.Queue) → decided (λ (u : Unit {0}). dropped_s (model.set_senders (clear q.senders s) q)) (closable (live_in q.senders s) (model.sender_busy s q)) q ≡ step (DropS s) q
+pub sender_is : (s : ℕ) (q : model.Queue)
+    → decided (λ (u : Unit {0}). if eqb (live (clear q.senders s)) 0 then silenced (model.set_senders (clear q.senders s) q) else model.reply model.DONE [] [] [] (model.set_senders (clear q.senders s) q)) (closable (live_in q.senders s) (model.sender_busy s q)) q ≡ step (DropS s) q
 unfolding step drop_s
-drop_s_is s q = close_is _ (lookup q.senders s) (was_closed q.senders s) (model.sender_busy s q) q
+sender_is s q = close_is _ (lookup q.senders s) (was_closed q.senders s) (model.sender_busy s q) q
 
-drop_r_is : (s : ℕ) (q : model.Queue) → decided (λ (u : Unit {0}). dropped_r (model.set_receivers (clear q.receivers s) q)) (closable (live_in q.receivers s) (model.receiver_busy s q)) q ≡ step (DropR s) q
+abbrev pub sender_leaves : (q : Queue) (s : ℕ) → Leaving q (DropS s) s
+sender_leaves q s =
+    record {
+      kind = senders_of q;
+      owns = model.sender_busy s (queue_of q);
+      last = silenced;
+      told = Ok Done;
+      last_no_refusal = λ m. refl;
+      told_no_refusal = refl;
+      is = sender_is s (queue_of q);
+    }
+
+pub receiver_is : (s : ℕ) (q : model.Queue)
+    → decided (λ (u : Unit {0}). if eqb (live (clear q.receivers s)) 0 then discarded (model.set_receivers (clear q.receivers s) q) else model.reply model.DONE (0 ∷ []) [] [] (model.set_receivers (clear q.receivers s) q)) (closable (live_in q.receivers s) (model.receiver_busy s q)) q ≡ step (DropR s) q
 unfolding step drop_r
-drop_r_is s q = close_is _ (lookup q.receivers s) (was_closed q.receivers s) (model.receiver_busy s q) q
+receiver_is s q = close_is _ (lookup q.receivers s) (was_closed q.receivers s) (model.receiver_busy s q) q
 
-module _ (q : Queue) (snd : Sound q) (s : ℕ) (a : Answer) (busy : Bool) where
-  module _ (g : busy ≡ model.sender_busy s (queue_of q)) where
-    asked_s : (r : Result (Unit {0}) Error) → closable (live_in (handles_of q.senders) s) busy ≡ r → r ≡ closable (live_in (handles_of q.senders) s) (model.sender_busy s (queue_of q))
-    asked_s r f = sym f ∙ ap (closable (live_in (handles_of q.senders) s)) g
+abbrev pub receiver_leaves : (q : Queue) (s : ℕ) → Leaving q (DropR s) s
+receiver_leaves q s =
+    record {
+      kind = receivers_of q;
+      owns = model.receiver_busy s (queue_of q);
+      last = discarded;
+      told = Ok (Discarded 0);
+      last_no_refusal = λ m. refl;
+      told_no_refusal = refl;
+      is = receiver_is s (queue_of q);
+    }
 
-    pub drop_s_refused : (e : Error) → ClosesIn q.senders s busy (Err e) → Says (Err e) [] [] a → Turned q (DropS s) a q
-    drop_s_refused e f u = does q (DropS s) a q snd (refuses _ _ q _ (drop_s_is s (queue_of q)) e a (asked_s (Err e) f) u)
+module _ {c : Call} {q : Queue} {s : ℕ} (l : Leaving q c s) (snd : Sound q) (a : Answer) (busy : Bool) (g : busy ≡ l.owns) where
+  asked : (r : Result (Unit {0}) Error) → closable (live_in (handles_of l.kind.table) s) busy ≡ r → r ≡ closable (live_in (handles_of l.kind.table) s) l.owns
+  asked r f = sym f ∙ ap (closable (live_in (handles_of l.kind.table) s)) g
 
-    module _ (h : Handles) (k : ClosesIn q.senders s busy (Ok h)) (n : ℕ) (f : n ≡ live (handles_of h)) where
-      left_s : queue_of (with_senders h q) ≡ model.set_senders (clear (handles_of q.senders) s) (queue_of q)
-      left_s = ap (λ (x : Table model.Mark). model.set_senders x (queue_of q)) k.1.handles
+  pub drop_refused : (e : Error) → ClosesIn l.kind.table s busy (Err e) → Says (Err e) [] [] a → Turned q c a q
+  drop_refused e f u = does q c a q snd (refuses _ _ q _ l.is e a (asked (Err e) f) u)
 
-      follows_s : dropped_s (queue_of (with_senders h q)) ≡ step (DropS s) (queue_of q)
-      follows_s = ap dropped_s left_s ∙ follows _ _ q _ (drop_s_is s (queue_of q)) tt (asked_s (Ok tt) k.0)
+  module _ (h : Handles) (k : ClosesIn l.kind.table s busy (Ok h)) (n : ℕ) (f : n ≡ live (handles_of h)) where
+    abbrev left : Table model.Mark → Bool → model.Result
+    left x gone = if gone then l.last (l.kind.set x) else model.reply (code_of l.told) (field_of l.told) [] [] (l.kind.set x)
 
-      pub drop_s_last : (q' : Queue) → n ≡ 0 → Does (silenced (queue_of (with_senders h q))) (with_senders h q) a q' → Turned q (DropS s) a q'
-      drop_s_last q' z d =
-          does q (DropS s) a q' snd
-          (subst (λ (w : model.Result). Does w q a q')
-          (sym (ap (λ (b : Bool). if b then silenced (queue_of (with_senders h q)) else model.reply model.DONE [] [] [] (queue_of (with_senders h q))) (none_left (handles_of h) n f z)) ∙ follows_s)
-          (on_the_way q (with_senders h q) (silenced (queue_of (with_senders h q))) a q' refl d))
+    is_left : left (handles_of h) (eqb (live (handles_of h)) 0) ≡ step c (queue_of q)
+    is_left = ap (λ (x : Table model.Mark). left x (eqb (live x) 0)) k.1.handles ∙ follows _ _ q _ l.is tt (asked (Ok tt) k.0)
 
-      pub drop_s_other : (n ≡ 0 → ⊥) → Says (Ok Done) [] [] a → Turned q (DropS s) a (with_senders h q)
-      drop_s_other z u =
-          does q (DropS s) a (with_senders h q) snd
-          (moves _ q (Ok Done) a [] [] (with_senders h q) u refl
-          (sym (ap (λ (b : Bool). if b then silenced (queue_of (with_senders h q)) else model.reply model.DONE [] [] [] (queue_of (with_senders h q))) (some_left (handles_of h) n f z)) ∙ follows_s))
+    pub drop_last : (q' : Queue) → n ≡ 0 → Does (l.last (queue_of (l.kind.with_table h))) (l.kind.with_table h) a q' → Turned q c a q'
+    drop_last q' z d =
+        does q c a q' snd
+        (subst (λ (w : model.Result). Does w q a q')
+        (ap l.last (l.kind.puts h) ∙ (sym (ap (left (handles_of h)) (none_left (handles_of h) n f z)) ∙ is_left))
+        (on_the_way q (l.kind.with_table h) (l.last (queue_of (l.kind.with_table h))) a q' (l.last_no_refusal (queue_of (l.kind.with_table h))) d))
 
-  module _ (g : busy ≡ model.receiver_busy s (queue_of q)) where
-    asked_r : (r : Result (Unit {0}) Error) → closable (live_in (handles_of q.receivers) s) busy ≡ r → r ≡ closable (live_in (handles_of q.receivers) s) (model.receiver_busy s (queue_of q))
-    asked_r r f = sym f ∙ ap (closable (live_in (handles_of q.receivers) s)) g
-
-    pub drop_r_refused : (e : Error) → ClosesIn q.receivers s busy (Err e) → Says (Err e) [] [] a → Turned q (DropR s) a q
-    drop_r_refused e f u = does q (DropR s) a q snd (refuses _ _ q _ (drop_r_is s (queue_of q)) e a (asked_r (Err e) f) u)
-
-    module _ (h : Handles) (k : ClosesIn q.receivers s busy (Ok h)) (n : ℕ) (f : n ≡ live (handles_of h)) where
-      left_r : queue_of (with_receivers h q) ≡ model.set_receivers (clear (handles_of q.receivers) s) (queue_of q)
-      left_r = ap (λ (x : Table model.Mark). model.set_receivers x (queue_of q)) k.1.handles
-
-      follows_r : dropped_r (queue_of (with_receivers h q)) ≡ step (DropR s) (queue_of q)
-      follows_r = ap dropped_r left_r ∙ follows _ _ q _ (drop_r_is s (queue_of q)) tt (asked_r (Ok tt) k.0)
-
-      pub drop_r_last : (q' : Queue) → n ≡ 0 → Does (discarded (queue_of (with_receivers h q))) (with_receivers h q) a q' → Turned q (DropR s) a q'
-      drop_r_last q' z d =
-          does q (DropR s) a q' snd
-          (subst (λ (w : model.Result). Does w q a q')
-          (sym (ap (λ (b : Bool). if b then discarded (queue_of (with_receivers h q)) else model.reply model.DONE (0 ∷ []) [] [] (queue_of (with_receivers h q))) (none_left (handles_of h) n f z)) ∙ follows_r)
-          (on_the_way q (with_receivers h q) (discarded (queue_of (with_receivers h q))) a q' refl d))
-
-      pub drop_r_other : (n ≡ 0 → ⊥) → Says (Ok (Discarded 0)) [] [] a → Turned q (DropR s) a (with_receivers h q)
-      drop_r_other z u =
-          does q (DropR s) a (with_receivers h q) snd
-          (moves _ q (Ok (Discarded 0)) a [] [] (with_receivers h q) u refl
-          (sym (ap (λ (b : Bool). if b then discarded (queue_of (with_receivers h q)) else model.reply model.DONE (0 ∷ []) [] [] (queue_of (with_receivers h q))) (some_left (handles_of h) n f z)) ∙ follows_r))
+    pub drop_other : (n ≡ 0 → ⊥) → Says l.told [] [] a → Turned q c a (l.kind.with_table h)
+    drop_other z u =
+        does q c a (l.kind.with_table h) snd
+        (moves _ q l.told a [] [] (l.kind.with_table h) u l.told_no_refusal
+        (ap (model.reply (code_of l.told) (field_of l.told) [] []) (l.kind.puts h) ∙ (sym (ap (left (handles_of h)) (some_left (handles_of h) n f z)) ∙ is_left)))
 
 -- ---- discard, counts, status
 pub values_fit : (q : Queue) (n : ℕ) → n ≡ length (ring.values q.values) → Fits w32 n
