@@ -1,11 +1,12 @@
 -- A make: its answer is a success exactly where the definition's code is that of work done, and make-u is never refused. Assumes nothing.
 use Prim.Native.Nat.{ℕ, ◌<◌, ◌≤◌}
-use mathlib.Core.Path.{◌≡◌, refl, ap}
+use mathlib.Core.Path.{◌≡◌, refl, sym, ap, ◌∙◌}
 use mathlib.Core.Bool.{Bool, true, false, ◌&&◌}
 use native.Mathlib.Omega.{arith}
+use borrow.Author.Tests.{eq-eqb, ne_eqb}
 use Rattle.std.specs.Prelude.{[], Ok, Err, Some, is_ok, if◌then◌else◌, leb, eqb}
-use Rattle.model.specs.Queue.{RING, DONE, BAD_CAPACITY, Result, reply, refuse, fresh, slots, nothing}
-use Rattle.model.specs.Calls.{make, make_u, by_make_u}
+use Rattle.model.specs.Queue.{RING, DONE, BAD_CAPACITY, Ans, Result, reply, refuse, fresh, slots, nothing}
+use Rattle.model.specs.Calls.{make, make_u, by_make, by_make_u}
 use Rattle.lines.specs.declared.Line.TheVariants as Line
 use Rattle.queue.specs.declared.Success.{Success}
 use Rattle.queue.specs.declared.Success.TheVariants.{Done, Discarded, Value, Given, Pending, Status}
@@ -55,6 +56,19 @@ test_is_ok n w false e = refused_is_error w e
 pub made_is_ok : (n : ℕ) (w : Told) → code_of w ≡ (make n).ans.code → eqb (make n).ans.code DONE ≡ is_ok w
 unfolding make
 made_is_ok n w e = test_is_ok n w (leb 1 n && leb n RING) e
+
+-- a good make begins its queue, and a refused one keeps the queue before it
+pub good_make : {h : Held} {n : ℕ} {t : Turn} → Made (by_make n) t.answer t.queue → code_of t.answer.what ≡ 0 → Steps h (Line.Make n) (Some (queue_of t.queue)) (ans_of t.answer)
+good_make {n = n} made e = record {
+  next = rw (eq-eqb (make n).ans.code 0 (sym (ap (λ (x : Ans). x.code) made.answer) ∙ e)) (ap Some made.next);
+  reply = made.answer;
+}
+
+pub refused_make : {h : Held} {n : ℕ} {t : Turn} → Made (by_make n) t.answer t.queue → (code_of t.answer.what ≡ 0 → ⊥) → Steps h (Line.Make n) h (ans_of t.answer)
+refused_make {n = n} made e = record {
+  next = rw (ne_eqb (make n).ans.code 0 (λ z. e (ap (λ (x : Ans). x.code) made.answer ∙ z)));
+  reply = made.answer;
+}
 
 -- make-u, which is never refused
 pub unbounded_made : {h : Held} {t : Turn} → Made by_make_u t.answer t.queue → Steps h Line.MakeU (Some (queue_of t.queue)) (ans_of t.answer)

@@ -1,5 +1,5 @@
 -- Laws of the numbers of `specs/Text.antt`. Assumes nothing.
-use Prim.Native.Nat.{ℕ, ◌+◌, ◌-◌, ◌*◌, ◌^◌, ◌<◌, zero-le}
+use Prim.Native.Nat.{ℕ, ◌+◌, ◌-◌, ◌*◌, ◌^◌, ◌<◌, ◌≤◌, zero-le}
 use mathlib.Core.Path.{◌≡◌, refl, sym, ◌∙◌}
 use mathlib.Core.List.{List, [], ◌∷◌}
 use mathlib.Core.Bool.{Bool, true, false, cond, ◌&&◌}
@@ -8,7 +8,7 @@ use native.Mathlib.Decide.{dec_lt}
 use mathlib.Core.Logic.{◌≢◌}
 use lib.ListN.{length, get_or}
 use lib.Dec.{leb}
-use borrow.Author.Tests.{ne_eqb, lt-leb, le-leb}
+use borrow.Author.Tests.{ne_eqb, lt-leb, le-leb, leb-true}
 use Rattle.std.proofs.Common.{rules}
 use Rattle.std.specs.Prelude.{Option, None, Some, Result, Ok, Err}
 use Rattle.std.specs.Char.{is_ascii_digit}
@@ -39,10 +39,38 @@ rest_is most a (c ∷ s) = by (is_ascii_digit c) (rest_is most (a * 10 + (c - 48
     by true e = e
     by false e = refl
 
+-- past the limit a number stays past it
+pub rest_over : (most a : ℕ) (s : List ℕ) → most < a → rest most a s ≡ None
+unfolding rest
+rest_over most a [] h = rw (lt-leb a most h)
+rest_over most a (c ∷ s) h = by (is_ascii_digit c) (rest_over most (a * 10 + (c - 48)) s (omega arith))
+  where
+    by : (b : Bool) → rest most (a * 10 + (c - 48)) s ≡ None → cond b (rest most (a * 10 + (c - 48)) s) None ≡ None
+    by true e = e
+    by false e = refl
+
 pub leads_by : (w : List ℕ) → 0 < length w → (get_or w 0 0 ≡ 48 → ⊥) → leads w ≡ true
 leads_by [] z f = absurd (omega arith)
 leads_by (c ∷ []) z f = refl
 leads_by (c ∷ d ∷ w) z f = rw (ne_eqb c 48 f)
+
+pub number_long : (most : ℕ) (w : List ℕ) → 1 < length w → (get_or w 0 0 ≡ 48 → ⊥) → number most w ≡ rest most 0 w
+unfolding number
+number_long most w l e = rw (leads_by w (omega arith) e)
+
+pub number_one : (most : ℕ) (w : List ℕ) → (length w ≡ 0 → ⊥) → length w ≤ 1 → number most w ≡ rest most 0 w
+unfolding number
+number_one most [] n l = absurd (n refl)
+number_one most (c ∷ []) n l = refl
+number_one most (c ∷ d ∷ w) n l = absurd (omega arith)
+
+-- the two together: what is not empty, and has no `0` before another byte, is what its bytes say
+pub number_starts : (most : ℕ) (w : List ℕ) → (length w ≡ 0 → ⊥) → (1 < length w → get_or w 0 0 ≡ 48 → ⊥) → number most w ≡ rest most 0 w
+number_starts most w n z = by (dec_lt 1 (length w))
+  where
+    by : Dec (1 < length w) → number most w ≡ rest most 0 w
+    by (yes l) = number_long most w l (z l)
+    by (no g) = number_one most w n (omega arith)
 
 pub number_is : (most : ℕ) (w : List ℕ) → 0 < length w → (get_or w 0 0 ≡ 48 → ⊥) → number most w ≡ cond (all_ascii_digits w) (limited most (value 0 w)) None
 unfolding number
@@ -103,3 +131,14 @@ number_digits most w v e = by (leads w) (all_ascii_digits w) (rest_is most 0 w) 
 -- so none is a space
 pub number_unspaced : (most : ℕ) (w : List ℕ) (v : ℕ) → number most w ≡ Some v → (i : ℕ) → i < length w → get_or w i 0 ≢ 32
 number_unspaced most w v e = not_in_digits own w 32 (number_digits most w v e) (λ r. omega arith)
+
+-- and it is within its limit
+pub number_most : (most : ℕ) (w : List ℕ) (v : ℕ) → number most w ≡ Some v → v ≤ most
+unfolding number
+number_most most w v e = leb-true v most (by (leads w) (all_ascii_digits w) (leb (value 0 w) most) refl (rest_is most 0 w) e)
+  where
+    by : (l b c : Bool) → leb (value 0 w) most ≡ c → rest most 0 w ≡ cond b (cond c (Some (value 0 w)) None) None → cond l (rest most 0 w) None ≡ Some v → leb v most ≡ true
+    by true true true k r e = cc
+    by true true false k r e = cc
+    by true false c k r e = cc
+    by false b c k r e = cc

@@ -2,11 +2,13 @@
 use Prim.Native.Nat.{ℕ, ◌+◌, ◌-◌, ◌<◌, ◌≤◌}
 use mathlib.Core.Path.{◌≡◌, refl, sym, ap, ◌∙◌}
 use mathlib.Core.List.{List, [], ◌∷◌, ◌++◌, map, append-nil, append_assoc}
+use mathlib.Core.Bool.{false}
 use native.Mathlib.Omega.{arith}
 use native.Mathlib.Numerals.{add-one}
 use lib.ListN.{length, get_or, drop, take, length-append}
 use lib.Seq.{take-suc, drop-drop, take_all}
-use borrow.Author.Tests.{eq-eqb}
+use lib.Dec.{eqb}
+use borrow.Author.Tests.{eq-eqb, ne_eqb}
 use Rattle.std.specs.Prelude.{Option, None, Some, MatchOption, option_to_list}
 use Rattle.std.specs.Fmt.{decimal}
 use Rattle.model.specs.Queue.{STATUS}
@@ -65,6 +67,13 @@ field_dashed code [] is five = absurd (omega arith)
 field_dashed code (x ∷ []) is five = absurd (omega arith)
 field_dashed code (x ∷ y ∷ xs) is five =
     rw (eq-eqb code STATUS is, eq-eqb (length (x ∷ y ∷ xs)) 5 five, take_all (length (x ∷ y ∷ xs) - 1) (y ∷ xs) (omega arith)) (sym (append_assoc (decimal x) (44 ∷ 45 ∷ 44 ∷ []) (decs (y ∷ xs))))
+
+-- any other field: its numbers
+pub field_counted : (code : ℕ) (field : List ℕ) → code ≡ STATUS → eqb (length field) 5 ≡ false → field_text code field ≡ decs field
+field_counted code field is other = rw (eq-eqb code STATUS is, other)
+
+pub field_plain : (code : ℕ) (field : List ℕ) → (code ≡ STATUS → ⊥) → field_text code field ≡ decs field
+field_plain code field other = rw (ne_eqb code STATUS other)
 
 -- ---- an output line, of its parts
 pub shown_line : (n : ℕ) (code : ℕ) (field wakes retired : List ℕ)

@@ -12,6 +12,7 @@ use Rattle.ring.specs.Values as ring
 use Rattle.ring.proofs.Laws.{length_values}
 use Rattle.tables.specs.declared.Handles.{Handles}
 use Rattle.tables.specs.Meaning.{handles_of}
+use Rattle.tables.specs.Calls.{Leaves}
 use Rattle.model.specs.Table.{Table, lookup, was_closed, lowest, put, clear, live}
 use Rattle.model.specs.Queue as model
 use Rattle.model.specs.declared.Call.TheVariants.{CloneS, CloneR, DropS, DropR}
@@ -134,6 +135,14 @@ receiver_leaves q s =
       is = receiver_is s (queue_of q);
     }
 
+-- the queue without the handle that left
+module _ (q : Queue) (s : ℕ) (h : Handles) where
+  pub senders_left_lem : Leaves q.senders s h → queue_of (with_senders h q) ≡ model.set_senders (clear (handles_of q.senders) s) (queue_of q)
+  senders_left_lem k = ap (λ (x : Table model.Mark). model.set_senders x (queue_of q)) k.handles
+
+  pub receivers_left_lem : Leaves q.receivers s h → queue_of (with_receivers h q) ≡ model.set_receivers (clear (handles_of q.receivers) s) (queue_of q)
+  receivers_left_lem k = ap (λ (x : Table model.Mark). model.set_receivers x (queue_of q)) k.handles
+
 module _ {c : Call} {q : Queue} {s : ℕ} (l : Leaving q c s) (snd : Sound q) (a : Answer) (busy : Bool) (g : busy ≡ l.owns) where
   asked : (r : Result (Unit {0}) Error) → closable (live_in (handles_of l.kind.table) s) busy ≡ r → r ≡ closable (live_in (handles_of l.kind.table) s) l.owns
   asked r f = sym f ∙ ap (closable (live_in (handles_of l.kind.table) s)) g
@@ -164,3 +173,6 @@ module _ {c : Call} {q : Queue} {s : ℕ} (l : Leaving q c s) (snd : Sound q) (a
 -- ---- discard, counts, status
 pub values_fit : (q : Queue) (n : ℕ) → n ≡ length (ring.values q.values) → Fits w32 n
 values_fit q n e = record { fits = omega (arith, length_values q.values, q.values.fits) }
+
+pub values_fit_lem : (q : Queue) (n : ℕ) → n ≡ length (ring.values q.values) → Fits w32 n
+values_fit_lem = values_fit

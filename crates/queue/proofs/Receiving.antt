@@ -3,29 +3,32 @@ use Prim.Native.Nat.{ℕ}
 use mathlib.Core.Path.{◌≡◌, refl, sym, ap, ap₂, ◌∙◌, subst}
 use mathlib.Core.Bool.{Bool, true, false}
 use mathlib.Core.List.{List, [], ◌∷◌}
-use Rattle.std.specs.Prelude.{if◌then◌else◌, Option, None, Some, Ok, Err, option_to_list}
+use Rattle.std.specs.Prelude.{if◌then◌else◌, Option, None, Some, Result, Ok, Err, option_map, option_to_list}
+use Rattle.std.specs.Result.{result_ok}
 use native.Mathlib.Omega.{arith}
 use Rattle.ring.specs.Values as ring
 use Rattle.side.specs.declared.Side.{Side}
 use Rattle.side.specs.declared.Entry.{Entry}
 use Rattle.side.specs.declared.Woken.{Woken}
 use Rattle.side.specs.declared.Pended.{Pended}
-use Rattle.side.specs.Meaning.{stage_of, deed_of}
+use Rattle.side.specs.Meaning.{Deed, side_of, stage_of, deed_of}
 use Rattle.side.specs.Calls.{Ends, Pends}
 use Rattle.model.specs.Table.{lookup, was_closed}
 use Rattle.model.specs.Side as side
 use Rattle.model.specs.Queue as model
 use Rattle.model.specs.declared.Call.TheVariants.{TryRecv, PollIn, CancelIn}
 use Rattle.model.specs.Calls.{step, try_recv}
-use Rattle.model.proofs.Leaves.{poll_in_value, poll_in_gone, poll_in_pending, cancel_in_passed, cancel_in_other}
+use Rattle.model.proofs.Leaves.{poll_in_dead, poll_in_value, poll_in_gone, poll_in_pending, cancel_in_passed, cancel_in_other}
 use Rattle.queue.specs.declared.Queue.{Queue}
 use Rattle.queue.specs.declared.Error.{Error}
 use Rattle.queue.specs.declared.Error.TheVariants.{Disconnected}
 use Rattle.queue.specs.declared.Success.TheVariants.{Done, Value, Pending}
 use Rattle.queue.specs.declared.Answer.{Answer}
 use Rattle.queue.specs.Meaning.{queue_of, Sound}
+use Rattle.queue.specs.Answers.{Told}
 use Rattle.queue.specs.Promise.{Turned}
 use Rattle.queue.specs.Steps.{token_of, Says, Does, Moves, live_by, Finds, takable, takable_of, receivable, receivable_of, popped, passes}
+use Rattle.queue.proofs.Refused.{refuses as refuses_dead}
 use Rattle.queue.proofs.Settled.{does, moves, decided, refuses, follows, done, with_ins}
 
 -- ---- try_recv
@@ -56,6 +59,11 @@ try_recv_is r q =
     by (Some a) closed [] false = refl
     by (Some a) closed (v ∷ l) gone = refl
 
+-- what is told of the value that is taken, or of why there is none
+abbrev pub value_told : Result ℕ Error → Told
+value_told (Ok v) = Ok (Value v)
+value_told (Err e) = Err e
+
 module _ (q : Queue) (snd : Sound q) (r : ℕ) (a : Answer) where
   pub try_recv_refused : (e : Error) → Err e ≡ receivable r (queue_of q) → Says (Err e) [] [] a → Turned q (TryRecv r) a q
   try_recv_refused e h u = does q (TryRecv r) a q snd (refuses (took (queue_of q)) (receivable r (queue_of q)) q _ (try_recv_is r (queue_of q)) e a h u)
@@ -65,6 +73,12 @@ module _ (q : Queue) (snd : Sound q) (r : ℕ) (a : Answer) where
       does q (TryRecv r) a q' snd
       (moves (step (TryRecv r) (queue_of q)) q (Ok (Value v)) a (token_of woken) [] q' u refl
       (ap₂ (λ (w : List ℕ) (x : model.Queue). model.reply model.VALUE (v ∷ []) w [] x) m.wakes m.next ∙ follows (took (queue_of q)) (receivable r (queue_of q)) q _ (try_recv_is r (queue_of q)) v h))
+
+  -- where it takes nothing it answers what it is told, and changes nothing
+  pub took_nothing : (x : Result ℕ Error) → x ≡ receivable r (queue_of q) → (woken : Option Woken) → Says (value_told x) (token_of woken) [] a → (q' : Queue)
+      → ((v : ℕ) → x ≡ Ok v → ⊥) → q' ≡ q → woken ≡ None → Turned q (TryRecv r) a q'
+  took_nothing (Ok v) h woken u q' n f w = absurd (n v refl)
+  took_nothing (Err e) h woken u q' n f w = rw f (try_recv_refused e h (rw w at u))
 
 -- ---- what is told of the values
 told_value : (l : List ℕ) (gone : Bool) (v : ℕ) → Ok (Some v) ≡ takable_of l gone → l ≡ v ∷ ring.rest l
@@ -111,6 +125,38 @@ module _ (q : Queue) (n t : ℕ) (op : Entry) (f : Finds q.ins n (Ok op)) (a : A
         (ap₂ (λ (w : List ℕ) (x : model.Queue). model.reply model.VALUE (v ∷ []) w (option_to_list kept) x) m.wakes m.next
         ∙ (ap₂ (λ (l : List ℕ) (i : side.Side model.Job). let mv = popped (model.set_ins i (queue_of q)) in model.reply model.VALUE (v ∷ []) mv.wakes l mv.next) y k.side
         ∙ sym (poll_in_value n t (queue_of q) (deed_of op) v (ring.rest (ring.values q.values)) f (told_value (ring.values q.values) (model.no_sender (queue_of q)) v h))))
+
+-- what a poll-in is told of the operation that it names, and the token that this kept
+abbrev front_told : Result (Option ℕ) Error → Told
+front_told (Ok None) = Ok Pending
+front_told (Ok (Some v)) = Ok (Value v)
+front_told (Err e) = Err e
+
+abbrev pub pollable : Result Entry Error → model.Queue → Told
+pollable (Ok op) q = front_told (takable q)
+pollable (Err e) q = Err e
+
+abbrev pub kept_of : Result Entry Error → List ℕ
+kept_of (Ok op) = side.kept (stage_of op.stage)
+kept_of (Err e) = []
+
+-- the token kept is that of the stage of the operation seen
+pub kept_of_lem : (found : Result Entry Error) (kept : Option ℕ) → option_to_list kept ≡ kept_of found → (op : Deed) → option_map deed_of (result_ok found) ≡ Some op → option_to_list kept ≡ side.kept op.stage
+kept_of_lem (Ok x) kept y op f = let z : deed_of x ≡ op = cc in y ∙ ap (λ (d : Deed). side.kept d.stage) z
+kept_of_lem (Err x) kept y op f = let z : ◌≡◌ {A = ℕ} 0 1 = cc in absurd (omega arith)
+
+pub in_refused : (q : Queue) → Sound q → (n t : ℕ) (found : Result Entry Error) → Finds q.ins n found → (what : Told) → what ≡ pollable found (queue_of q)
+    → (kept : Option ℕ) → option_to_list kept ≡ kept_of found → (woken : Option Woken) (retired : Option ℕ) (a : Answer) → Says what (token_of woken) (option_to_list retired) a → (q' : Queue)
+    → ((v : ℕ) → what ≡ Ok (Value v) → ⊥) → ((c : Option ℕ) → what ≡ Err (Disconnected c) → ⊥) → (what ≡ Ok Pending → ⊥) → q' ≡ q → retired ≡ kept → woken ≡ None → Turned q (PollIn n t) a q'
+unfolding step
+in_refused q snd n t (Err x) f what e kept y woken retired a u q' not_value not_gone not_pending h m w =
+    rw h (refuses_dead q (PollIn n t) (side_of q.ins).ops n what a snd (e ∙ ap (λ (z : Error). Err z) f.1) (rw (w, m, y) at u) (poll_in_dead n t (queue_of q) f.0))
+in_refused q snd n t (Ok op) f what e kept y woken retired a u q' not_value not_gone not_pending h m w = absurd (told (ring.values q.values) (model.no_sender (queue_of q)) e)
+  where
+    told : (l : List ℕ) (gone : Bool) → what ≡ front_told (takable_of l gone) → ⊥
+    told [] true p = not_gone None p
+    told [] false p = not_pending p
+    told (v ∷ l) gone p = not_value v p
 
 -- ---- cancel_in
 module _ (q : Queue) (snd : Sound q) (n : ℕ) (a : Answer) where

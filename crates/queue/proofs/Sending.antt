@@ -32,6 +32,7 @@ use Rattle.queue.specs.declared.Error.TheVariants.{Disconnected}
 use Rattle.queue.specs.declared.Success.TheVariants.{Done, Pending}
 use Rattle.queue.specs.declared.Answer.{Answer}
 use Rattle.queue.specs.Meaning.{room_of, queue_of, Sound}
+use Rattle.queue.specs.Answers.{Told}
 use Rattle.queue.specs.Promise.{Turned}
 use Rattle.queue.specs.Steps.{token_of, Says, Does, Moves, live_by, live_in, Finds, tried, sendable, GivesPermit, cancelled, ready}
 use Rattle.queue.proofs.Settled.{kept, does, moves, decided, need_is, refuses, follows, on_the_way, done, slot_left, reserved_counted}
@@ -94,6 +95,19 @@ module _ (q : Queue) (snd : Sound q) (s v : ℕ) (a : Answer) where
       (subst (λ (w : model.Result). Does w q a q')
       (ap (λ (r : model.Room). model.done_by (model.push v (model.set_free r (queue_of q)))) g ∙ follows _ _ q _ (try_send_is s v (queue_of q)) k h)
       (done _ q woken a q' m u))
+
+-- what is told of a send that went through, or of why it did not
+abbrev pub sent_told : Result (Unit {0}) Error → Told
+sent_told (Ok u) = Ok Done
+sent_told (Err e) = Err e
+
+-- where nothing stopped it, that is Done
+pub is_done_lem : (c : Option ℕ) (s : ℕ) (q : model.Queue) (what : Told) → what ≡ sent_told (sendable c s q) → (b : Bool) → b ≡ is_ok what → b ≡ true → what ≡ Ok Done
+is_done_lem c s q what e b f d = by (sendable c s q) e (sym (ap (λ (x : Told). is_ok x) e) ∙ (sym f ∙ d))
+  where
+    by : (r : Result (Unit {0}) Error) → what ≡ sent_told r → is_ok (sent_told r) ≡ true → what ≡ Ok Done
+    by (Ok u) e h = e
+    by (Err x) e h = let z : ◌≡◌ {A = ℕ} 0 1 = cc in absurd (omega arith)
 
 -- ---- a permit is given, if a number is left for one
 module _ (q : Queue) (s : ℕ) (left : Option ℕ) (r : Result ℕ Error) (q' : Queue) (k : GivesPermit q s left r q') where

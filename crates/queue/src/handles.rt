@@ -1,12 +1,13 @@
 // Senders and receivers come and go: `Clone` and `Drop` of the handles, and drop_sender and drop_receiver. After src/mpmc/bounded.rs,
 // src/mpmc/unbounded.rs and src/mpmc/queue.rs of asyncband 0.7.4. The calls of the two kinds differ in the table, in what keeps a handle busy and in what
 // its last one leaves; what they share is `cloned` and `closed`.
-ghost use Rattle.std.specs.Prelude.{◌≡◌};
+ghost use Rattle.std.specs.Prelude.{◌≡◌, Ok};
+ghost use Rattle.tables.specs.Meaning.{handles_of};
 ghost use Rattle.model.specs.Queue as model;
 ghost use Rattle.model.specs.declared.Call.TheVariants.{CloneS, CloneR, DropS, DropR};
 ghost use Rattle.queue.specs.Meaning.{queue_of, Sound};
 ghost use Rattle.queue.specs.Promise.{Turned};
-ghost use Rattle.queue.specs.Steps.{ClonesIn, ClosesIn, Does, silenced, discarded};
+ghost use Rattle.queue.specs.Steps.{live_in, ClonesIn, ClosesIn, Does, silenced, discarded};
 
 use crate::known::live;
 use crate::moves::taken;
@@ -25,9 +26,9 @@ fn cloned(handles: &mut Handles, n: u32) -> Result<u32, Error>
 
 // The handles without the live handle n; refused while it is busy, that is, while a record of its own is open.
 fn closed(handles: Handles, n: u32, busy: bool) -> Result<Handles, Error>
+    requires { live_in (handles_of handles) n ≡ Ok tt }
     ensures { ClosesIn handles n busy result }
 {
-    live(handles, n)?;
     if busy {
         return Err(Error::InUse);
     }
@@ -71,6 +72,22 @@ impl Queue {
         0 < self.ins.owned_by(n)
     }
 
+    // The senders without n. What keeps it busy is looked for only where it is live: that takes a look at every permit and operation.
+    fn senders_without(self, n: u32) -> Result<Handles, Error>
+        ensures { ClosesIn self.senders n (model.sender_busy n (queue_of self)) result }
+    {
+        live(self.senders, n)?;
+        closed(self.senders, n, self.sender_busy(n))
+    }
+
+    // The receivers without n, likewise.
+    fn receivers_without(self, n: u32) -> Result<Handles, Error>
+        ensures { ClosesIn self.receivers n (model.receiver_busy n (queue_of self)) result }
+    {
+        live(self.receivers, n)?;
+        closed(self.receivers, n, self.receiver_busy(n))
+    }
+
     // The last sender has left: the line of receivers is closed for good.
     fn silence(&mut self) -> Answer
         ensures { Does (silenced (queue_of self.old)) self.old result self.new }
@@ -88,7 +105,7 @@ impl Queue {
         requires { Sound self }
         ensures { Turned self (DropS n) result.answer result.queue }
     {
-        let answer = match closed(self.senders, n, self.sender_busy(n)) {
+        let answer = match self.senders_without(n) {
             Err(error) => plain(Err(error)),
             Ok(left) => {
                 self.senders = left;
@@ -124,7 +141,7 @@ impl Queue {
         requires { Sound self }
         ensures { Turned self (DropR n) result.answer result.queue }
     {
-        let answer = match closed(self.receivers, n, self.receiver_busy(n)) {
+        let answer = match self.receivers_without(n) {
             Err(error) => plain(Err(error)),
             Ok(left) => {
                 self.receivers = left;

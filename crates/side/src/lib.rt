@@ -264,9 +264,9 @@ impl Side {
         }
     }
 
-    // The operation at a place, if one is open there.
-    fn at(self, place: u32) -> Option<Entry>
-        ensures { option_map deed_of result ≡ in_place (place_in self place) }
+    // The operation at a place, if one is open there. The side is lent: the counts look at every place, and would copy it at each.
+    fn at(&self, place: u32) -> Option<Entry>
+        ensures { option_map deed_of result ≡ in_place (place_in self.now place) }
     {
         if self.places.live.has(place) {
             let op = self.ops[place as usize];

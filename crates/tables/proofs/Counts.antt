@@ -5,14 +5,19 @@ use mathlib.Core.Path.{◌≡◌, refl, sym, ap, ap₂, ◌∙◌}
 use mathlib.Core.List.{[], ◌∷◌, ◌++◌}
 use native.Mathlib.Numerals.{add-one}
 use native.Mathlib.Omega.{arith}
-use mathlib.Core.Bool.{Bool}
+use mathlib.Core.Bool.{Bool, true}
+use borrow.Author.Tests.{leb-true}
+use lib.Dec.{leb}
 use Rattle.std.proofs.lemmas.List.Sums.{sum_by-cons}
 use Rattle.std.specs.List.{count_by, range_with_len}
 use Rattle.std.specs.Prelude.{cond}
 use native.Mathlib.Nat.{add-zero}
-use lib.ListN.{length, get_or, take}
+use lib.ListN.{length, get_or, take, length-take}
 use lib.Seq.{take_all, take-suc}
-use Rattle.model.specs.Table.{vacant, in_place, Table, of, sum}
+use mir.Val.{Fits}
+use mir.Syntax.{w32}
+use Rattle.model.specs.Table.{Place, vacant, holds, in_place, Table, of, sum}
+use Rattle.model.proofs.TableLaws.{sum_le_size}
 
 module _ {A : Type 0} (f : A → ℕ) where
   sum_append : (t u : Table A) → sum f (t ++ u) ≡ sum f t + sum f u
@@ -43,6 +48,20 @@ module _ {A : Type 0} (f : A → ℕ) where
 
     pub counting_done : size ≤ n → total ≡ sum f t
     counting_done h = c.is ∙ ap (sum f) (take_all n t (omega (arith, c.wide)))
+
+    -- every record counts at most once, and a table has at most 64, so the sum fits
+    pub counting_fits : ((a : A) → f a ≤ 1) → leb size 64 ≡ true → (x : ℕ) → x ≡ of f (in_place (get_or t n (vacant 0))) → Fits w32 (total + x)
+    counting_fits one small x g =
+        record {
+          fits =
+              let a = sum_le_size f one (take n t) in
+              let b : of f (in_place (get_or t n (vacant 0))) ≤ 1 = by (get_or t n (vacant 0)) in
+              omega (arith, c.is, length-take n t, c.wide, leb-true size 64 small);
+        }
+      where
+        by : (p : Place A) → of f (in_place p) ≤ 1
+        by (vacant k) = omega arith
+        by (holds k a) = one a
 
 -- a count by a chain: as many places pass the test as the sum of f over the table, in which a record counts as one or not at all
 pub counted_by : {A : Type 0} (f : A → ℕ) (t : Table A) (start : ℕ) (p : ℕ → Bool)

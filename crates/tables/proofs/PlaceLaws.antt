@@ -270,6 +270,11 @@ module _ {A R : Type 0} (turn_of : A → ℕ) (record_of : A → R) where
     pub places_clear : turn_of x ≡ suc (n / 64) → places_of turn_of record_of (set l (n % 64) false) (set xs (n % 64) x) ≡ clear (places_of turn_of record_of l xs) n
     places_clear e = places_set l xs (n % 64) false x ∙ ap (λ (k : ℕ). set (places_of turn_of record_of l xs) (n % 64) (vacant k)) e
 
+    pub places_write : get_or l (n % 64) false ≡ true → turn_of x ≡ n / 64 → places_of turn_of record_of l (set xs (n % 64) x) ≡ put (places_of turn_of record_of l xs) n (record_of x)
+    places_write q e =
+        let still : set l (n % 64) true ≡ l = ap (set l (n % 64)) (sym q) ∙ set-get_or l (n % 64) false in
+        ap (λ (w : List Bool). places_of turn_of record_of w (set xs (n % 64) x)) (sym still) ∙ places_put e
+
   -- no record is live, and none ever was
   never_used : (n limit : ℕ) (x : A) → turn_of x ≡ 0 → limit ≤ n → places_of turn_of record_of (replicate n false) (replicate limit x) ≡ blank limit
   unfolding places_of

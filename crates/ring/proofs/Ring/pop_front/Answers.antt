@@ -9,8 +9,8 @@ unfolding first rest
 returns-then-self-eq0 c = let none = none_values c.args.self c.if-self-eq0.true in (rw none, sound_of _, rw none)
 
 pub invariant_of-self-clause-zeroed : goal.invariant_of-self-clause-zeroed
-invariant_of-self-clause-zeroed c = pop_zeroed c.args.self c.if-self-eq0.false
+invariant_of-self-clause-zeroed c = rw c.wrapped.ensures (pop_zeroed c.args.self c.if-self-eq0.false)
 
 pub returns : goal.returns
 unfolding first rest values
-returns c = let some = pop_values c.args.self c.if-self-eq0.false in (rw some, sound_of _, rw some)
+returns c = let some = pop_values c.args.self c.if-self-eq0.false in (rw some, sound_of _, rw (some, c.wrapped.ensures))
