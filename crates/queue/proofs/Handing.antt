@@ -150,6 +150,10 @@ module _ {c : Call} {q : Queue} {s : ℕ} (l : Leaving q c s) (snd : Sound q) (a
   pub drop_refused : (e : Error) → ClosesIn l.kind.table s busy (Err e) → Says (Err e) [] [] a → Turned q c a q
   drop_refused e f u = does q c a q snd (refuses _ _ q _ l.is e a (asked (Err e) f) u)
 
+  -- a handle that is not live, whatever a record may own
+  pub drop_dead : (e : Error) → Err e ≡ live_in (handles_of l.kind.table) s → Says (Err e) [] [] a → Turned q c a q
+  drop_dead e f u = drop_refused e (ap (λ (r : Result (Unit {0}) Error). closable r busy) (sym f)) u
+
   module _ (h : Handles) (k : ClosesIn l.kind.table s busy (Ok h)) (n : ℕ) (f : n ≡ live (handles_of h)) where
     abbrev left : Table model.Mark → Bool → model.Result
     left x gone = if gone then l.last (l.kind.set x) else model.reply (code_of l.told) (field_of l.told) [] [] (l.kind.set x)

@@ -72,22 +72,6 @@ impl Queue {
         0 < self.ins.owned_by(n)
     }
 
-    // The senders without n. What keeps it busy is looked for only where it is live: that takes a look at every permit and operation.
-    fn senders_without(self, n: u32) -> Result<Handles, Error>
-        ensures { ClosesIn self.senders n (model.sender_busy n (queue_of self)) result }
-    {
-        live(self.senders, n)?;
-        closed(self.senders, n, self.sender_busy(n))
-    }
-
-    // The receivers without n, likewise.
-    fn receivers_without(self, n: u32) -> Result<Handles, Error>
-        ensures { ClosesIn self.receivers n (model.receiver_busy n (queue_of self)) result }
-    {
-        live(self.receivers, n)?;
-        closed(self.receivers, n, self.receiver_busy(n))
-    }
-
     // The last sender has left: the line of receivers is closed for good.
     fn silence(&mut self) -> Answer
         ensures { Does (silenced (queue_of self.old)) self.old result self.new }
@@ -101,18 +85,25 @@ impl Queue {
         }
     }
 
+    // What keeps it busy is looked for only where it is live: that takes a look at every permit and operation.
     pub fn drop_s(mut self, n: u32) -> Turn
         requires { Sound self }
         ensures { Turned self (DropS n) result.answer result.queue }
     {
-        let answer = match self.senders_without(n) {
+        let answer = match live(self.senders, n) {
             Err(error) => plain(Err(error)),
-            Ok(left) => {
-                self.senders = left;
-                if left.count() == 0 {
-                    self.silence()
-                } else {
-                    plain(Ok(Success::Done))
+            Ok(()) => {
+                let busy = self.sender_busy(n);
+                match closed(self.senders, n, busy) {
+                    Err(error) => plain(Err(error)),
+                    Ok(left) => {
+                        self.senders = left;
+                        if left.count() == 0 {
+                            self.silence()
+                        } else {
+                            plain(Ok(Success::Done))
+                        }
+                    }
                 }
             }
         };
@@ -137,18 +128,25 @@ impl Queue {
         }
     }
 
+    // As with a sender, what keeps it busy is looked for only where it is live.
     pub fn drop_r(mut self, n: u32) -> Turn
         requires { Sound self }
         ensures { Turned self (DropR n) result.answer result.queue }
     {
-        let answer = match self.receivers_without(n) {
+        let answer = match live(self.receivers, n) {
             Err(error) => plain(Err(error)),
-            Ok(left) => {
-                self.receivers = left;
-                if left.count() == 0 {
-                    self.discard()
-                } else {
-                    plain(Ok(Success::Discarded(0)))
+            Ok(()) => {
+                let busy = self.receiver_busy(n);
+                match closed(self.receivers, n, busy) {
+                    Err(error) => plain(Err(error)),
+                    Ok(left) => {
+                        self.receivers = left;
+                        if left.count() == 0 {
+                            self.discard()
+                        } else {
+                            plain(Ok(Success::Discarded(0)))
+                        }
+                    }
                 }
             }
         };

@@ -6,7 +6,7 @@ use Rattle.ring.specs.Values.{values, sound_of, tab}
 use Rattle.ring.proofs.Ring.fresh.Goals as goal
 
 pub invariant_of-result-clause-zeroed : goal.invariant_of-result-clause-zeroed
-invariant_of-result-clause-zeroed c = none_zeroed 0 0
+invariant_of-result-clause-zeroed c = none_zeroed
 
 pub returns : goal.returns
 unfolding values tab
